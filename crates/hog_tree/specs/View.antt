@@ -1,5 +1,7 @@
 -- The plain tree of a tree.
-use Rattle.std.specs.Prelude.{ℕ, List, [], ◌∷◌, map, Option, Some, None}
+use Rattle.std.specs.Prelude.{List, [], ◌∷◌, map, Option, Some, None}
+use Rattle.std.specs.declared.boxed.Box.{Box}
+use Rattle.std.specs.declared.alloc.Global.{Global}
 use Rattle.hog_tree.specs.Plain.{Word, Exp, Exps, Parts, Pairs, Body, Stm, Stms, OptionExp, OptionStm, OptionStms, NoExp, MoreExp, NoPart, MoreText, MoreHole, NoPair, MorePair, Done, Then, NoneExp, SomeExp, NoneStm, SomeStm, NoneStms, SomeStms}
 use Rattle.hog_tree.specs.Plain as p
 use Rattle.hog_tree.specs.declared.tree.Named.{Named}
@@ -8,13 +10,14 @@ use Rattle.hog_tree.specs.declared.tree.Expr.{Expr, Int, Bool, Null, Template', 
 use Rattle.hog_tree.specs.declared.tree.Part as t
 use Rattle.hog_tree.specs.declared.tree.Part.{Part}
 use Rattle.hog_tree.specs.declared.tree.Parts.{Row_of-Part, end_of-Part, more_of-Part}
-use Rattle.hog_tree.specs.declared.tree.DictItem.{DictItem}
 use Rattle.hog_tree.specs.declared.tree.ArrowBody.TheBlock.{struct-DictItems}
 use Rattle.hog_tree.specs.declared.tree.DictItems.{DictItems, Row_of-DictItem, end_of-DictItem, more_of-DictItem}
+use Rattle.hog_tree.specs.declared.tree.DictItem.{DictItem}
 use Rattle.hog_tree.specs.declared.tree.ArrowBody as a
 use Rattle.hog_tree.specs.declared.tree.ArrowBody.{ArrowBody, One'}
 use Rattle.hog_tree.specs.declared.tree.Stmt as s
 use Rattle.hog_tree.specs.declared.tree.Stmt.{Stmt, Row_of-Stmt, end_of-Stmt, more_of-Stmt, Held-Stmt-Let-1, Stmt-Let-1-None', Stmt-Let-1-Some', Held-Stmt-If-2, Stmt-If-2-None', Stmt-If-2-Some', Held-Stmt-For-0, Stmt-For-0-None', Stmt-For-0-Some'}
+use Rattle.hog_tree.specs.declared.tree.Stmts.{Stmts as Block}
 use Rattle.hog_tree.specs.declared.tree.Tree.{Tree}
 
 abbrev pub word_of : Named → Word
@@ -109,9 +112,26 @@ abbrev pub parts_from : List Part → Parts
 parts_from [] = NoPart
 parts_from (x ∷ xs) = part_of x (parts_from xs)
 
+abbrev pub pairs_from : List DictItem → Pairs
+pairs_from [] = NoPair
+pairs_from (x ∷ xs) = MorePair (exp_of x.key) (exp_of x.value) (pairs_from xs)
+
 abbrev pub stms_from : List Stmt → Stms
 stms_from [] = Done
 stms_from (x ∷ xs) = Then (stm_of x) (stms_from xs)
+
+-- Parts that may be left out, as a program makes and matches them.
+abbrev pub option_exp_from : Option Expr → OptionExp
+option_exp_from None = NoneExp
+option_exp_from (Some x) = SomeExp (exp_of x)
+
+abbrev pub option_stm_from : Option (Box Stmt Global) → OptionStm
+option_stm_from None = NoneStm
+option_stm_from (Some x) = SomeStm (stm_of x.value)
+
+abbrev pub option_stms_from : Option Block → OptionStms
+option_stms_from None = NoneStms
+option_stms_from (Some x) = SomeStms (stms_from x.list.items)
 
 -- The plain tree of a program.
 abbrev pub tree_of : Tree → Stms

@@ -1,0 +1,5 @@
+pub mod Lines
+pub mod Added
+pub mod Takes
+pub mod Writes
+pub mod Stops

@@ -1,0 +1,165 @@
+use super::*;
+use hog_outside::{Failed, MemSink, MemSource};
+use std::test::Fail;
+
+/// A call over streams in memory, and what comes of it.
+#[derive(Clone, Copy)]
+struct Row<'a> {
+    words: &'a [&'a str],
+    input: &'a str,
+    /// The reads that fail, counted from 1.
+    failing_reads: &'a [u32],
+    /// How many bytes the sink has room for.
+    room: usize,
+    /// The writes that fail, counted from 1.
+    failing_writes: &'a [u32],
+    status: u8,
+    written: &'a str,
+}
+
+fn given(alloc: Global, words: &[&str]) -> Result<Vec<HogText>, Fail> {
+    let mut given = Vec::new(alloc);
+    for word in words {
+        given.push(HogText::from_bytes(alloc, word.as_bytes())?)?;
+    }
+    Ok(given)
+}
+
+/// A row whose streams don't fail.
+fn calm<'a>(words: &'a [&'a str], input: &'a str, status: u8, written: &'a str) -> Row<'a> {
+    Row {
+        words,
+        input,
+        failing_reads: &[],
+        room: 1000,
+        failing_writes: &[],
+        status,
+        written,
+    }
+}
+
+/// A row of `eval` with faults.
+fn faulty<'a>(
+    input: &'a str,
+    failing_reads: &'a [u32],
+    room: usize,
+    failing_writes: &'a [u32],
+    status: u8,
+    written: &'a str,
+) -> Row<'a> {
+    Row {
+        words: &["eval"],
+        input,
+        failing_reads,
+        room,
+        failing_writes,
+        status,
+        written,
+    }
+}
+
+#[test]
+fn answers(rt: HostRuntime) -> Result<(), Fail> {
+    let alloc = rt.alloc();
+    let overflow =
+        "threw \"{'type': 'IntegerOverflow', 'message': 'integer overflow', 'payload': null}\"\n";
+    let two = "print(1); print(2);";
+    let rows = [
+        calm(&["eval"], "return 1 + 2;", 0, "result \"3\"\n"),
+        calm(&["eval"], "", 0, "result \"null\"\n"),
+        calm(&["eval"], "return 9223372036854775807 + 1;", 0, overflow),
+        calm(
+            &["eval"],
+            two,
+            0,
+            "print \"1\"\nprint \"2\"\nresult \"null\"\n",
+        ),
+        calm(&["eval"], "x", 1, "refused: not built yet\n"),
+        calm(&[], "return 1;", 2, "refused: words\n"),
+        calm(&["eval", "x"], "return 1;", 2, "refused: words\n"),
+        calm(&["Eval"], "return 1;", 2, "refused: words\n"),
+        // The second read is the one at the end.
+        faulty("return 1;", &[1], 1000, &[], 3, ""),
+        faulty("return 1;", &[2], 1000, &[], 3, ""),
+        // A sink that fails, and one without room: a line that doesn't fit is taken in part.
+        faulty(two, &[], 1000, &[2], 4, "print \"1\"\n"),
+        faulty(two, &[], 14, &[], 4, "print \"1\"\nprin"),
+        // A refusal stays one where its line can't be written.
+        faulty("x", &[], 1000, &[1], 1, ""),
+        faulty("x", &[], 3, &[], 1, "ref"),
+    ];
+    for row in &rows {
+        let words = given(alloc, row.words)?;
+        let bytes = Vec::from_slice(alloc, row.input.as_bytes())?;
+        let mut source = MemSource::new(bytes, Vec::from_slice(alloc, row.failing_reads)?);
+        let mut sink = MemSink::new(alloc, row.room, Vec::from_slice(alloc, row.failing_writes)?)?;
+        let status = top_eval(alloc, &words, &mut source, &mut sink);
+        assert_eq!(rt; status, row.status, "of {:?}", row.input);
+        assert_eq!(rt; sink.bytes(), row.written.as_bytes(), "of {:?}", row.input);
+    }
+    Ok(())
+}
+
+#[test]
+fn refuses_a_byte_too_many(rt: HostRuntime) -> Result<(), Fail> {
+    let alloc = rt.alloc();
+    let words = given(alloc, &["eval"])?;
+    for (length, written) in [
+        (16_777_216, "refused: not built yet\n"),
+        (16_777_217, "refused: too large\n"),
+    ] {
+        let mut source = MemSource::new(vec![in alloc; b' '; length]?, Vec::new(alloc));
+        let mut sink = MemSink::new(alloc, 100, Vec::new(alloc))?;
+        assert_eq!(rt; top_eval(alloc, &words, &mut source, &mut sink), 1);
+        assert_eq!(rt; sink.bytes(), written.as_bytes());
+    }
+    Ok(())
+}
+
+/// A stream that moves at most two bytes at a call, and tells none.
+#[derive(Drop)]
+struct Drip<T>(T);
+
+impl<S: Source> Source for Drip<S> {
+    ghost use Rattle.std.specs.declared.option.Option.TheVariants.{None};
+
+    ghost faults = { λ drip. S.faults drip.0 };
+
+    ghost left = { λ _. None };
+
+    fn read(&mut self, buf: &mut [u8]) -> Result<usize, Failed> {
+        let most = buf.len().min(2);
+        self.0.read(&mut buf[..most])
+    }
+}
+
+impl<W: Sink> Sink for Drip<W> {
+    ghost use Rattle.std.specs.declared.option.Option.TheVariants.{None};
+
+    ghost faults = { λ drip. W.faults drip.0 };
+
+    ghost taken = { λ _. None };
+
+    fn write(&mut self, piece: &[u8]) -> Result<usize, Failed> {
+        let most = piece.len().min(2);
+        self.0.write(&piece[..most])
+    }
+}
+
+#[test]
+fn goes_on_after_a_part(rt: HostRuntime) -> Result<(), Fail> {
+    let alloc = rt.alloc();
+    let words = given(alloc, &["eval"])?;
+    for (failing_writes, status, written) in [
+        ([].as_slice(), 0, "print \"1\"\nresult \"2\"\n"),
+        ([7].as_slice(), 4, "print \"1\"\nre"),
+    ] {
+        let bytes = Vec::from_slice(alloc, b"print(1); return 2;")?;
+        let mut source = Drip(MemSource::new(bytes, Vec::new(alloc)));
+        let sink = MemSink::new(alloc, 100, Vec::from_slice(alloc, failing_writes)?)?;
+        let mut sink = Drip(sink);
+        assert_eq!(rt; top_eval(alloc, &words, &mut source, &mut sink), status);
+        assert_eq!(rt; sink.0.bytes(), written.as_bytes());
+    }
+    Ok(())
+}

@@ -1,0 +1,5 @@
+pub mod Meaning
+pub mod Code
+pub mod Machine
+pub mod Law
+pub mod View
