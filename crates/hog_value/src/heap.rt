@@ -33,6 +33,7 @@ impl Model for Heap {
 
 impl Heap {
     ghost use Rattle.std.specs.Prelude.{◌≡◌, ◌<◌, ◌↔◌, ◌+◌, ◌++◌, ◌∷◌, [], length, IfOk, OnOk, OnErr, IsSome, Some, Ok, slice_get, map, take};
+    ghost use Rattle.hog_value.specs.declared.value.Kind.{Kind as AKind};
     ghost use Rattle.hog_value.specs.Values.{NamesBelow};
     ghost use Rattle.hog_value.specs.Cells.{IsClosed, IsSound, IsCovered, CellNamesBelow, HasDistinctKeys, items_at, pairs_at, cost_of_cell};
     ghost use Rattle.hog_value.specs.Operations.{Gives, Throws, Spends, made, item_of, key_of, set_item_of, set_key_of, same_of, truth_of};
@@ -86,11 +87,14 @@ impl Heap {
     pub fn make(&mut self, c: Cell, m: &mut Meter) -> Result<Value, Stop>
         requires names { CellNamesBelow (length self.old) (cell_of c) }
         requires covered { IsCovered self.old m.old.units }
-        ensures ok { IfOk result (λ v. made (cell_of c) self.old m.old.units ≡ Gives v self.new m.new.units) }
+        ensures ok { IfOk result
+            (λ v. made (cell_of c) self.old m.old.units ≡ Gives v self.new m.new.units) }
         ensures cell { OnOk result (self.new ≡ self.old ++ cell_of c ∷ []) }
         ensures number { IfOk result (λ v. v ≡ Value.Ref (length self.old)) }
-        ensures charge { OnOk result (m.new ≡ record m.old { units = m.old.units + cost_of_cell (cell_of c) }) }
-        ensures spent { (result ≡ Err Stop.UnitsSpent) ↔ (made (cell_of c) self.old m.old.units ≡ Spends) }
+        ensures charge { OnOk result
+            (m.new ≡ record m.old { units = m.old.units + cost_of_cell (cell_of c) }) }
+        ensures spent { (result ≡ Err Stop.UnitsSpent)
+            ↔ (made (cell_of c) self.old m.old.units ≡ Spends) }
         ensures err { OnErr result (self.new ≡ self.old) }
         ensures err_meter { OnErr result (m.new ≡ m.old) }
         ensures covered { IsCovered self.new m.new.units }
@@ -146,12 +150,16 @@ impl Heap {
         requires array { IsSome (items_at self.old array) }
         requires names { NamesBelow (length self.old) v }
         requires covered { IsCovered self.old m.old.units }
-        ensures ok { OnOk result (set_item_of self.old array index v m.old.units ≡ Gives tt self.new m.new.units) }
-        ensures other_meters { OnOk result (m.new ≡ record m.old { units = m.new.units }) }
-        ensures thrown { (kind : _) → (result ≡ Err (SetStop.Thrown kind)) ↔ (set_item_of self.old array index v m.old.units ≡ Throws kind) }
-        ensures spent { (result ≡ Err SetStop.UnitsSpent) ↔ (set_item_of self.old array index v m.old.units ≡ Spends) }
+        ensures ok { OnOk result
+            (set_item_of self.old array index v m.old.units ≡ Gives tt self.new m.new.units) }
+        ensures turns_and_depth { OnOk result (m.new ≡ record m.old { units = m.new.units }) }
+        ensures thrown { (kind : AKind) → (result ≡ Err (SetStop.Thrown kind))
+            ↔ (set_item_of self.old array index v m.old.units ≡ Throws kind) }
+        ensures spent { (result ≡ Err SetStop.UnitsSpent)
+            ↔ (set_item_of self.old array index v m.old.units ≡ Spends) }
         ensures err { OnErr result (self.new ≡ self.old) }
         ensures err_meter { OnErr result (m.new ≡ m.old) }
+        ensures count { length self.new ≡ length self.old }
         ensures covered { IsCovered self.new m.new.units }
     {
         let Cell::Array(items) = &mut self.cells[array as usize] else {
@@ -183,11 +191,14 @@ impl Heap {
         requires dict { IsSome (pairs_at self.old dict) }
         requires names { NamesBelow (length self.old) v }
         requires covered { IsCovered self.old m.old.units }
-        ensures ok { OnOk result (set_key_of self.old dict key.now v m.old.units ≡ Gives tt self.new m.new.units) }
-        ensures other_meters { OnOk result (m.new ≡ record m.old { units = m.new.units }) }
-        ensures spent { (result ≡ Err Stop.UnitsSpent) ↔ (set_key_of self.old dict key.now v m.old.units ≡ Spends) }
+        ensures ok { OnOk result
+            (set_key_of self.old dict key.now v m.old.units ≡ Gives tt self.new m.new.units) }
+        ensures turns_and_depth { OnOk result (m.new ≡ record m.old { units = m.new.units }) }
+        ensures spent { (result ≡ Err Stop.UnitsSpent)
+            ↔ (set_key_of self.old dict key.now v m.old.units ≡ Spends) }
         ensures err { OnErr result (self.new ≡ self.old) }
         ensures err_meter { OnErr result (m.new ≡ m.old) }
+        ensures count { length self.new ≡ length self.old }
         ensures covered { IsCovered self.new m.new.units }
     {
         let Cell::Dict(pairs) = &mut self.cells[dict as usize] else {

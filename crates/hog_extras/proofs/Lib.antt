@@ -1,0 +1,3 @@
+mod Calendar
+mod Walks
+pub mod ReadBack
