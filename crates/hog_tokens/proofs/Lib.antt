@@ -1,0 +1,13 @@
+pub mod Number
+pub mod Tests
+pub mod Runs
+pub mod Comments
+pub mod PieceKinds
+pub mod PieceReads
+pub mod PieceSound
+pub mod PieceFaults
+pub mod Texts
+pub mod Cutting
+pub mod Bounds
+pub mod TextLaws
+pub mod Answer

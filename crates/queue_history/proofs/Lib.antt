@@ -1,0 +1,8 @@
+pub mod Push
+pub mod Places
+pub mod Step
+pub mod Enqueue
+pub mod Steps
+pub mod First
+pub mod Sweeps
+mod Examples

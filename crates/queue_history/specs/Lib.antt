@@ -1,0 +1,5 @@
+pub mod Rules
+pub mod Facts
+pub mod Due
+pub mod Legal
+pub mod Rows
