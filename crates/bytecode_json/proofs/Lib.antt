@@ -1,0 +1,5 @@
+mod Back
+mod Same
+mod Decoded
+mod Sized
+mod Written

@@ -1,0 +1,28 @@
+use Rattle.std.proofs.Common.{◌≡◌, ◌++◌, ◌∷◌, [], refl, ap, sym, ◌∙◌, arith, add-zero}
+use Rattle.cyclotron_jobs.specs.declared.row.JobState.TheVariants.{Available, Running}
+use Rattle.cyclotron_jobs.specs.declared.entry.Entry.TheVariants.{PutBack}
+use Rattle.queue_history.proofs.Steps.{IsStep-put_back}
+use Rattle.cyclotron_core.proofs.Found.{IsLiveRow-from}
+use Rattle.cyclotron_core.proofs.Rooms.{IsQueue-step}
+use Rattle.cyclotron_core.proofs.queue.QueueState.put_back.Goals as goal
+
+pub invariant_of-self-2 : goal.invariant_of-self-2
+invariant_of-self-2 g c =
+    let live = IsLiveRow-from c.self.view_is c.in-Ok.ensures.found c.in-Ok.ensures.owner c.index_mut-row.result.now c.index_mut-row.ensures.value in
+    rw (c.push_reserved.ensures.items, c.reserve.ensures.items, c.in-Ok-put_back.ensures.ok)
+    (IsQueue-step c.self.invariant live.read live.owner
+    (IsStep-put_back c.self.invariant.sound.kept c.in-Ok.place live.read c.args.lock.job (sym live.place) c.args.lock live.locked c.args.at)
+    (sym (add-zero _)) (c.in-Ok-put_back.ensures.put.ok refl) (λ (e : Available ≡ Running). absurd cc))
+
+pub returns-clause-ok : goal.returns-clause-ok
+returns-clause-ok g c =
+    let old = c.index_mut-row.result.now in
+    let live = IsLiveRow-from c.self.view_is c.in-Ok.ensures.found c.in-Ok.ensures.owner old c.index_mut-row.ensures.value in
+    rw (← c.self.view_is) record {
+      before = old;
+      there = live.there;
+      rows = rw (c.in-Ok-put_back.ensures.ok, ← live.place) refl;
+      history = c.push_reserved.ensures.items ∙ ap (λ h. h ++ PutBack c.args.lock.job c.args.lock c.args.at ∷ []) c.reserve.ensures.items;
+      told = c.in-Ok-put_back.ensures.put.ok refl;
+      spare = omega (arith, c.reserve.ensures.len, c.reserve.ensures.capacity, c.push_reserved.ensures.len, c.push_reserved.ensures.capacity);
+    }

@@ -1,0 +1,4 @@
+pub mod Queue
+pub mod Changes
+pub mod Puts
+pub mod Refusals

@@ -1,0 +1,12 @@
+pub mod Plain
+pub mod Table
+pub mod Elements
+pub mod Valid
+pub mod Stored
+pub mod View
+pub mod Falls
+pub mod Ranges
+pub mod Counts
+pub mod Lost
+pub mod Slots
+pub mod Join

@@ -1,0 +1,17 @@
+pub mod Begin
+pub mod Climb
+pub mod Lists
+pub mod Moves
+pub mod Forms
+pub mod Groups
+pub mod Plains
+pub mod Blocks
+pub mod Loops
+pub mod Complete
+pub mod Sound
+pub mod SoundForms
+pub mod SoundStatements
+pub mod SoundLoops
+pub mod Parse
+pub mod Count
+pub mod Place

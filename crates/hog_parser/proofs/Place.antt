@@ -1,0 +1,25 @@
+-- The tokens from an index on.
+use Rattle.std.proofs.Common.{◌≡◌, ℕ, zero, suc, ◌+◌, ◌<◌, ◌≤◌, List, [], ◌∷◌, length, refl, ap, ◌∙◌, arith}
+use Rattle.std.specs.Prelude.{get_or, drop, map}
+use Rattle.std.proofs.lemmas.List.{drop_more}
+use Rattle.hog_grammar.specs.declared.token.Token.{Token}
+use Rattle.hog_grammar.specs.Terminal.{Terminal, terminals, terminal_of}
+use Rattle.hog_grammar.specs.Pieces.{AreInOrder}
+
+pub left_at : (text : List ℕ) (list : List Token) (i : ℕ) (d : Token) → i < length list → terminals text (drop i list) ≡ terminal_of text (get_or list i d) ∷ terminals text (drop (i + 1) list)
+left_at text list i d h = ap (terminals text) (drop_more list i d h)
+
+pub left_end : (text : List ℕ) (list : List Token) (i : ℕ) → length list ≤ i → terminals text (drop i list) ≡ []
+left_end text [] zero h = refl
+left_end text [] (suc i) h = refl
+left_end text (t ∷ list) zero h = absurd (omega (arith, h))
+left_end text (t ∷ list) (suc i) h = left_end text list i (omega (arith, h))
+
+in_order_end : (from end : ℕ) (ts : List Token) → AreInOrder from ts end → from ≤ end
+in_order_end from end [] h = h
+in_order_end from end (t ∷ ts) h = omega (arith, h.0, h.1, in_order_end t.to end ts h.2)
+
+pub order_at : (from end : ℕ) (ts : List Token) (i : ℕ) (d : Token) → AreInOrder from ts end → i < length ts → ((get_or ts i d).from ≤ (get_or ts i d).to) × ((get_or ts i d).to ≤ end)
+order_at from end [] i d h lt = absurd (omega (arith, lt))
+order_at from end (t ∷ ts) zero d h lt = (omega (arith, h.1), in_order_end t.to end ts h.2)
+order_at from end (t ∷ ts) (suc i) d h lt = order_at t.to end ts i d h.2 (omega (arith, lt))

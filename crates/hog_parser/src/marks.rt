@@ -1,0 +1,193 @@
+//! What stands at an index: marks, operators, and what they go on with.
+
+ghost use Rattle.std.specs.Prelude.{◌≡◌, option_map};
+ghost use Rattle.hog_parser.specs.Marks.{after_open, after_close, after_close_bracket, after_open_brace, after_close_brace, after_comma, after_semi, after_colon, after_assign, after_arrow, after_hole, after_else, operator, lead, begins_arrow};
+ghost use Rattle.hog_parser.specs.View.{left};
+
+use crate::cursor::next;
+use crate::term::Term;
+use hog_grammar::Tokens;
+use hog_tree::tree::BinaryOp;
+
+/// The index after an opening parenthesis. Takes no memory.
+pub fn open(tokens: &Tokens, at: usize) -> Option<usize>
+    ensures { option_map (λ i. left tokens.now i) result ≡ after_open (left tokens.now at) }
+{
+    let (term, after) = next(tokens, at)?;
+    match term {
+        Term::Open => Some(after),
+        _ => None,
+    }
+}
+
+/// The index after a closing parenthesis. Takes no memory.
+pub fn close(tokens: &Tokens, at: usize) -> Option<usize>
+    ensures { option_map (λ i. left tokens.now i) result ≡ after_close (left tokens.now at) }
+{
+    let (term, after) = next(tokens, at)?;
+    match term {
+        Term::Close => Some(after),
+        _ => None,
+    }
+}
+
+/// The index after a closing bracket. Takes no memory.
+pub fn close_bracket(tokens: &Tokens, at: usize) -> Option<usize>
+    ensures { option_map (λ i. left tokens.now i) result ≡ after_close_bracket (left tokens.now at) }
+{
+    let (term, after) = next(tokens, at)?;
+    match term {
+        Term::CloseBracket => Some(after),
+        _ => None,
+    }
+}
+
+/// The index after an opening brace. Takes no memory.
+pub fn open_brace(tokens: &Tokens, at: usize) -> Option<usize>
+    ensures { option_map (λ i. left tokens.now i) result ≡ after_open_brace (left tokens.now at) }
+{
+    let (term, after) = next(tokens, at)?;
+    match term {
+        Term::OpenBrace => Some(after),
+        _ => None,
+    }
+}
+
+/// The index after a closing brace. Takes no memory.
+pub fn close_brace(tokens: &Tokens, at: usize) -> Option<usize>
+    ensures { option_map (λ i. left tokens.now i) result ≡ after_close_brace (left tokens.now at) }
+{
+    let (term, after) = next(tokens, at)?;
+    match term {
+        Term::CloseBrace => Some(after),
+        _ => None,
+    }
+}
+
+/// The index after a comma. Takes no memory.
+pub fn comma(tokens: &Tokens, at: usize) -> Option<usize>
+    ensures { option_map (λ i. left tokens.now i) result ≡ after_comma (left tokens.now at) }
+{
+    let (term, after) = next(tokens, at)?;
+    match term {
+        Term::Comma => Some(after),
+        _ => None,
+    }
+}
+
+/// The index after a `;`. Takes no memory.
+pub fn semi(tokens: &Tokens, at: usize) -> Option<usize>
+    ensures { option_map (λ i. left tokens.now i) result ≡ after_semi (left tokens.now at) }
+{
+    let (term, after) = next(tokens, at)?;
+    match term {
+        Term::Semi => Some(after),
+        _ => None,
+    }
+}
+
+/// The index after a colon. Takes no memory.
+pub fn colon(tokens: &Tokens, at: usize) -> Option<usize>
+    ensures { option_map (λ i. left tokens.now i) result ≡ after_colon (left tokens.now at) }
+{
+    let (term, after) = next(tokens, at)?;
+    match term {
+        Term::Colon => Some(after),
+        _ => None,
+    }
+}
+
+/// The index after a `:=`. Takes no memory.
+pub fn assign(tokens: &Tokens, at: usize) -> Option<usize>
+    ensures { option_map (λ i. left tokens.now i) result ≡ after_assign (left tokens.now at) }
+{
+    let (term, after) = next(tokens, at)?;
+    match term {
+        Term::Assign => Some(after),
+        _ => None,
+    }
+}
+
+/// The index after an arrow. Takes no memory.
+pub fn arrow(tokens: &Tokens, at: usize) -> Option<usize>
+    ensures { option_map (λ i. left tokens.now i) result ≡ after_arrow (left tokens.now at) }
+{
+    let (term, after) = next(tokens, at)?;
+    match term {
+        Term::Arrow => Some(after),
+        _ => None,
+    }
+}
+
+/// The index after the end of a hole. Takes no memory.
+pub fn hole(tokens: &Tokens, at: usize) -> Option<usize>
+    ensures { option_map (λ i. left tokens.now i) result ≡ after_hole (left tokens.now at) }
+{
+    let (term, after) = next(tokens, at)?;
+    match term {
+        Term::HoleEnd => Some(after),
+        _ => None,
+    }
+}
+
+/// The index after `else`. Takes no memory.
+pub fn else_word(tokens: &Tokens, at: usize) -> Option<usize>
+    ensures { option_map (λ i. left tokens.now i) result ≡ after_else (left tokens.now at) }
+{
+    let (term, after) = next(tokens, at)?;
+    match term {
+        Term::Else => Some(after),
+        _ => None,
+    }
+}
+
+/// The operator between two operands, and the index after it. Takes no memory.
+pub fn infix_at(tokens: &Tokens, at: usize) -> Option<(BinaryOp, usize)>
+    ensures { option_map (λ x. (x.0, left tokens.now x.1)) result ≡ operator (left tokens.now at) }
+{
+    let (term, after) = next(tokens, at)?;
+    match term {
+        Term::Or => Some((BinaryOp::Or, after)),
+        Term::And => Some((BinaryOp::And, after)),
+        Term::Equal => Some((BinaryOp::Equal, after)),
+        Term::NotEqual => Some((BinaryOp::NotEqual, after)),
+        Term::Less => Some((BinaryOp::Less, after)),
+        Term::LessEqual => Some((BinaryOp::LessEqual, after)),
+        Term::Greater => Some((BinaryOp::Greater, after)),
+        Term::GreaterEqual => Some((BinaryOp::GreaterEqual, after)),
+        Term::In => Some((BinaryOp::IsIn, after)),
+        Term::Not => match next(tokens, after) {
+            Some((Term::In, after)) => Some((BinaryOp::NotIn, after)),
+            _ => None,
+        },
+        Term::Plus => Some((BinaryOp::Plus, after)),
+        Term::Minus => Some((BinaryOp::Minus, after)),
+        Term::Star => Some((BinaryOp::Times, after)),
+        _ => None,
+    }
+}
+
+/// The level at which the tokens go on an expression before them; 0 where they don't. Takes no memory.
+pub fn lead_level(tokens: &Tokens, at: usize) -> u32
+    ensures { result ≡ lead (left tokens.now at) }
+{
+    let Some((term, after)) = next(tokens, at) else {
+        return 0;
+    };
+    match term {
+        Term::Or => 2,
+        Term::And => 3,
+        Term::Coalesce => 5,
+        Term::Equal | Term::NotEqual | Term::Less | Term::LessEqual => 6,
+        Term::Greater | Term::GreaterEqual | Term::In => 6,
+        Term::Not => match next(tokens, after) {
+            Some((Term::In, _)) => 6,
+            _ => 0,
+        },
+        Term::Plus | Term::Minus => 7,
+        Term::Star => 8,
+        Term::Dot | Term::NullishDot | Term::OpenBracket | Term::Open => 10,
+        Term::Arrow => 12,
+        _ => 0,
+    }
+}

@@ -1,0 +1,7 @@
+pub mod Words
+pub mod Places
+pub mod Scopes
+pub mod Events
+pub mod Stops
+pub mod Literals
+pub mod Environment

@@ -1,0 +1,5 @@
+use Rattle.plain_json.specs.Inverse.{reads_back}
+use Rattle.plain_json.proofs.reads_back.Goals as goal
+
+pub returns : goal.returns
+returns c = reads_back
