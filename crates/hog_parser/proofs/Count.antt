@@ -7,7 +7,7 @@ use Rattle.hog_grammar.specs.Terminal.{Terminal, word}
 use Rattle.hog_grammar.specs.Terminal as k
 use Rattle.hog_grammar.specs.Forms.{enclosed, semis, Listing, Others, Governed}
 use Rattle.hog_grammar.specs.Spelling.{level, tokens_of, Bare, items, entries, OfParts, OfBody, OfStm, OfStms, OnlyOne, OfElse, Declared, Returned, Condition, Start, StartOf, Step, StepOf, bound, Spells}
-use Rattle.hog_parser.specs.Count.{of_exp, of_exps, of_parts, of_pairs, of_body, of_stm, of_stms, of_option_exp, of_option_stm, of_option_stms}
+use Rattle.hog_tree.specs.Count.{of_exp, of_exps, of_parts, of_pairs, of_body, of_stm, of_stms, of_option_exp, of_option_stm, of_option_stms}
 use Rattle.hog_parser.proofs.Forms.{Spelled, bare_above}
 
 -- An expression has fewer than two for each token, so that one is left for a statement of it.

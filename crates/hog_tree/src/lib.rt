@@ -1,9 +1,8 @@
-//! The trees of Hog programs, with the places of the words that name something, and a reader of sums.
+//! The trees of Hog programs, with the places of the words that name something.
 //! Stands on hog_value.
-//! Above, contracts see a tree as the plain tree without pointers and places that `tree_of` gives.
-//! `read_sums` is used: it gives the tree of a text that is a program of sums, by `IsProgram`,
-//! and refuses just the texts that are none; `one_tree` says that a text has one tree at most.
+//! Above, contracts see a tree as the plain tree without pointers and places that `tree_of` gives
+//! (specs/Plain.antt, specs/View.antt); specs/Count.antt counts its statements and expressions.
+//! proofs/Rows.antt says what the plain tree of each form with a list is; every reader of trees cites it.
 #![tactic(auto)]
 
-pub mod sums;
 pub mod tree;
