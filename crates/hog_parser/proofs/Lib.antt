@@ -12,6 +12,6 @@ pub mod Sound
 pub mod SoundForms
 pub mod SoundStatements
 pub mod SoundLoops
-pub mod Parse
+pub mod Conclusions
 pub mod Count
 pub mod Place

@@ -2,3 +2,4 @@ pub mod Marks
 pub mod Read
 pub mod ReadStatements
 pub mod View
+pub mod Before

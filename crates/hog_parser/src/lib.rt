@@ -8,4 +8,7 @@
 mod cursor;
 pub mod laws;
 mod marks;
+pub mod parser;
 mod term;
+
+pub use parser::{ParseStop, parse};

@@ -6,7 +6,7 @@ use Rattle.hog_tree.specs.declared.tree.BinaryOp.{BinaryOp}
 use Rattle.hog_tree.specs.declared.tree.BinaryOp.TheVariants as o
 use Rattle.hog_tree.specs.Plain as t
 use Rattle.hog_tree.specs.Plain.{Exp, Exps, NoExp, MoreExp, Stm, Stms, Then, SomeExp}
-use Rattle.hog_tree.specs.Sums.{IsSum, AreSums, IsSumStm, IsSums}
+use Rattle.hogvm.specs.Sums.{IsSum, AreSums, IsSumStm, IsSums}
 use Rattle.hog_value.specs.declared.trace.TraceItem.TheVariants.{Printed}
 use Rattle.hog_value.specs.declared.trace.End.{End}
 use Rattle.hog_value.specs.declared.trace.End.TheVariants.{Done, Threw}

@@ -1,3 +1,4 @@
+pub mod Sums
 pub mod Meaning
 pub mod Code
 pub mod Machine

@@ -1,7 +1,7 @@
 //! From trees to codes.
 
 ghost use Rattle.std.specs.Prelude.{◌≡◌, [], ◌∷◌, ◌++◌, ◌<◌, ◌^◌, length, IfOk, OnOk};
-ghost use Rattle.hog_tree.specs.Sums.{IsSums};
+ghost use Rattle.hogvm.specs.Sums.{IsSums};
 ghost use Rattle.hog_tree.specs.View.{exp_of, exps_from, stm_of, tree_of};
 ghost use Rattle.hogvm.specs.Code.{op_of, exp_code, exps_code, stm_code, stms_code, program_code};
 ghost use Rattle.hogvm.specs.View.{op_view, ops_of};

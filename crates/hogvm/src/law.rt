@@ -2,7 +2,7 @@
 
 ghost use Rattle.std.specs.Prelude.{◌≡◌, ◌+◌, ℕ, List};
 ghost use Rattle.hog_tree.specs.Plain.{Stms};
-ghost use Rattle.hog_tree.specs.Sums.{IsSums};
+ghost use Rattle.hogvm.specs.Sums.{IsSums};
 ghost use Rattle.hogvm.specs.Code.{Op};
 ghost use Rattle.hogvm.specs.Law.{ShowsTheMeaning};
 ghost use Rattle.hogvm.specs.Machine.{Run, after_run};

@@ -6,7 +6,7 @@
 #![tactic(auto)]
 
 ghost use Rattle.std.specs.Prelude.{◌≡◌, IfOk};
-ghost use Rattle.hog_tree.specs.Sums.{IsSums};
+ghost use Rattle.hogvm.specs.Sums.{IsSums};
 ghost use Rattle.hog_tree.specs.View.{tree_of};
 ghost use Rattle.hogvm.specs.Meaning.{meaning};
 
@@ -14,6 +14,7 @@ pub mod code;
 pub mod compile;
 pub mod law;
 pub mod machine;
+pub mod sums;
 #[cfg(test)]
 mod tests;
 

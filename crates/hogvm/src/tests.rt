@@ -1,7 +1,7 @@
 //! Programs of sums and what they show.
 
 ghost use Rattle.std.specs.Prelude.{IfOk};
-ghost use Rattle.hog_tree.specs.Sums.{IsSum, IsSumStm, IsSums};
+ghost use Rattle.hogvm.specs.Sums.{IsSum, IsSumStm, IsSums};
 ghost use Rattle.hog_tree.specs.View.{exp_of, stm_of, stms_from};
 
 use crate::code::{Code, Op};

@@ -1,6 +1,6 @@
 use Rattle.std.proofs.Common.{◌≡◌, [], ◌∷◌, ◌++◌, sym, ap, ◌∙◌, subst}
 use Rattle.hog_tree.specs.Plain.{Do, Call, Name}
-use Rattle.hog_tree.specs.Sums.{IsSumStm, print_word}
+use Rattle.hogvm.specs.Sums.{IsSumStm, print_word}
 use Rattle.hog_tree.specs.View.{exp_of, exps_from}
 use Rattle.hogvm.proofs.Lists.{call_is}
 use Rattle.hogvm.proofs.tests.print.Goals as goal

@@ -1,0 +1,8 @@
+-- What stands before a place of a text.
+use Rattle.std.specs.Prelude.{ℕ, nat_le, List}
+use Rattle.std.specs.List.{count_by}
+use Rattle.hog_grammar.specs.declared.token.Token.{Token}
+
+-- how many of the tokens end at that place or before it
+abbrev pub tokens_before : ℕ → List Token → ℕ
+tokens_before at = count_by (λ (t : Token). nat_le t.to at)

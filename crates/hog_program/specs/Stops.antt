@@ -1,0 +1,19 @@
+-- Refusals of the lexer and the parser as refusals of a source.
+use Rattle.hog_tokens.specs.declared.lexer.LexStop.{LexStop}
+use Rattle.hog_tokens.specs.declared.lexer.LexStop.TheVariants as lex
+use Rattle.hog_parser.specs.declared.parser.ParseStop.{ParseStop}
+use Rattle.hog_parser.specs.declared.parser.ParseStop.TheVariants as parse
+use Rattle.hog_program.specs.declared.stop.BuildStop.{BuildStop}
+use Rattle.hog_program.specs.declared.stop.BuildStop.TheVariants as stop
+
+abbrev pub of_lex : LexStop → BuildStop
+of_lex (lex.NotUtf8 at) = stop.NotUtf8 at
+of_lex (lex.BadByte at) = stop.BadByte at
+of_lex (lex.Unclosed at) = stop.Unclosed at
+of_lex (lex.TooLarge at) = stop.TooLarge at
+of_lex lex.OutOfMemory = stop.OutOfMemory
+
+abbrev pub of_parse : ParseStop → BuildStop
+of_parse (parse.Syntax at) = stop.Syntax at
+of_parse (parse.TooNested at) = stop.TooNested at
+of_parse parse.OutOfMemory = stop.OutOfMemory

@@ -1,0 +1,35 @@
+//! Reading the tree of a source.
+
+ghost use Rattle.std.specs.Prelude.{◌≡◌, ◌≢◌, ◌≤◌, ◌*◌, ℕ, List, length, IfOk, Err};
+ghost use Rattle.hog_tree.specs.Count.{of_stms};
+ghost use Rattle.hog_tree.specs.Plain.{Stms};
+ghost use Rattle.hog_tree.specs.View.{tree_of};
+ghost use Rattle.hog_program.specs.Source.{IsProgram, IsNone};
+ghost use Rattle.hog_program.specs.declared.stop.BuildStop.{BuildStop as Stop};
+
+use crate::stop::BuildStop;
+use hog_parser::parse;
+use hog_tokens::lex;
+use hog_tree::tree::Tree;
+use std::alloc::Global;
+
+/// The greatest length of a program, in bytes.
+const MOST_BYTES: usize = 16_384;
+
+/// The tree of a source, in time that is linear in it. A source is a program or it has a refusal, and never
+/// both (`program_or_none`), so each refusal comes exactly where it should, want of memory aside.
+pub fn read_tree(alloc: Global, source: &[u8]) -> Result<Tree, BuildStop>
+    ensures program { IfOk result (λ tree. IsProgram source.now (tree_of tree)) }
+    ensures refused { (stop : Stop) → result ≡ Err stop → stop ≢ BuildStop.OutOfMemory
+        → IsNone source.now stop }
+
+    // A tree has at most two statements and expressions for each byte of its source.
+    ensures count { IfOk result (λ tree. of_stms (tree_of tree) ≤ 2 * length source.now) }
+{
+    if source.len() > MOST_BYTES {
+        return Err(BuildStop::TooLong);
+    }
+    let tokens = lex(alloc, source)?;
+    let tree = parse(alloc, &tokens)?;
+    Ok(tree)
+}
