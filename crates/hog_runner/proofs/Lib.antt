@@ -1,2 +1,3 @@
 pub mod AddedLemmas
 pub mod TakesLemmas
+pub mod TopLemmas

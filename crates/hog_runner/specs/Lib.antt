@@ -1,5 +1,7 @@
 pub mod Lines
 pub mod Added
 pub mod Takes
+pub mod Causes
+pub mod Commands
 pub mod Writes
 pub mod Stops

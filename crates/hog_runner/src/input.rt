@@ -3,7 +3,7 @@
 ghost use Rattle.std.specs.Prelude.{◌≡◌, ℕ, ◌+◌, ◌-◌, ◌<◌, ◌≤◌, List, [], length, IfOk, OnOk, vec_len};
 ghost use Rattle.hog_outside.specs.Faults.{Rose};
 ghost use Rattle.hog_runner.specs.Takes.{Moves, TakesAtMost};
-ghost use Rattle.hog_runner.specs.Writes.{most_bytes};
+ghost use Rattle.hog_runner.specs.Commands.{most_bytes};
 
 use hog_outside::{Failed, Source};
 use std::alloc::{AllocError, Global};

@@ -1,17 +1,19 @@
 //! The program `hog_runner`: reads standard input, and writes to standard output what its words ask for.
-//! Stands on hog_outside, hog_value, hog_tree and hogvm, and spells texts by serde_json.
-//! The contract is that of `top_eval`: when each status comes, and what is read and written at it,
+//! Stands on hog_outside, hog_program, hog_printer, hogvm, hog_tree and hog_value, and spells texts by serde_json.
+//! The contract is that of `top_program`: when each status comes, and what is read and written at it,
 //! for every list of words, every input, and every fault of the source and the sink.
-//! `specs/Writes.antt` says what the program answers for its words and its input.
+//! specs/Writes.antt and Commands.antt say what the program answers for its words and its input.
 #![tactic(auto)]
 
+pub mod causes;
 pub mod input;
 pub mod lines;
 pub mod output;
+pub mod program;
 pub mod top;
 pub mod words;
 
-use crate::top::top_eval;
+use crate::top::top_program;
 use hog_outside::{Input, Output};
 use hog_value::HogText;
 use std::alloc::{AllocError, Global};
@@ -25,7 +27,7 @@ fn main(rt: HostRuntime) -> ExitCode {
     };
     let mut source = Input::new(rt.reader());
     let mut sink = Output::new(io::writer(&rt));
-    ExitCode::from(top_eval(rt.alloc(), &words, &mut source, &mut sink))
+    ExitCode::from(top_program(rt.alloc(), &words, &mut source, &mut sink))
 }
 
 /// The arguments behind the program's name. Where one isn't UTF-8 there are none, since no command has

@@ -1,30 +1,33 @@
 //! The top call: what the program does with its words, its input and its output.
 
-ghost use Rattle.std.specs.Prelude.{◌≡◌, ◌≢◌, ◌↔◌, ◌⊎◌, ℕ, ◌+◌, ◌<◌, ◌≤◌};
-ghost use Rattle.std.specs.Prelude.{List, [], length, IfOk, OnOk};
+ghost use Rattle.std.specs.Prelude.{◌≡◌, ◌↔◌, ◌⊎◌, ℕ, ◌+◌, ◌<◌, ◌≤◌};
+ghost use Rattle.std.specs.Prelude.{List, [], length, Some, None};
 ghost use Rattle.hog_outside.specs.Faults.{Rose};
-ghost use Rattle.hog_tree.specs.Plain.{Stms};
-ghost use Rattle.hog_tree.specs.Sums.{IsProgram, IsSums};
 ghost use Rattle.hog_tree.specs.View.{tree_of};
-ghost use Rattle.hogvm.specs.Meaning.{meaning};
 ghost use Rattle.hog_runner.specs.Added.{Adds, AddsPrefix, AddsUnless};
-ghost use Rattle.hog_runner.specs.Lines.{output_of};
+ghost use Rattle.hog_runner.specs.Causes.{cause_of};
+ghost use Rattle.hog_runner.specs.Commands.{command_of, most_bytes, Gives, Lacks, Outputs, Refuses};
 ghost use Rattle.hog_runner.specs.Takes.{TakesAtMost};
-ghost use Rattle.hog_runner.specs.Writes.{Writes, eval_words, most_bytes};
+ghost use Rattle.hog_runner.specs.Writes.{Writes, refusal};
+ghost use Rattle.hog_runner.specs.declared.words.Command.{Command as Asked};
 
-use crate::input::{InputStop, read_all};
+use crate::causes::refusal_of;
 use crate::output::{OutputStop, write_shown, write_whole};
-use crate::words::is_eval;
+use crate::program::{ProgramStop, read_program};
+use crate::words::{Command, command_of};
 use hog_outside::{Sink, Source};
-use hog_tree::sums::{SumsStop, read_sums};
+use hog_printer::print_tree;
+use hog_program::BuildStop;
+use hog_program::laws::{one_tree, program_or_none};
 use hog_tree::tree::Tree;
 use hog_value::HogText;
 use hogvm::evaluate;
+use hogvm::sums::is_sums;
 use std::alloc::Global;
 
 /// Does what the words ask for, and answers the status of the program: 0 done, 1 the input is refused,
 /// 2 the words are refused, 3 a read failed, 4 a write failed, 5 there was no memory.
-pub fn top_eval<S: Source, W: Sink>(
+pub fn top_program<S: Source, W: Sink>(
     alloc: Global,
     words: &[HogText],
     source: &mut S,
@@ -33,7 +36,7 @@ pub fn top_eval<S: Source, W: Sink>(
     ensures statuses { result ≤ 5 }
 
     // 2 comes exactly where the words are no command. Nothing is read.
-    ensures words_refused { (result ≡ 2) ↔ (words.now ≢ eval_words) }
+    ensures words_refused { (result ≡ 2) ↔ (command_of words.now ≡ None) }
     ensures words_unread { result ≡ 2 → source.new ≡ source.old }
     ensures words_line { result ≡ 2 → (xs : List ℕ)
         → (line : List ℕ) × Writes words.now xs 2 line
@@ -50,15 +53,10 @@ pub fn top_eval<S: Source, W: Sink>(
         → (line : List ℕ) × Writes words.now xs 1 line
         × AddsUnless (Rose (W.faults sink.old) (W.faults sink.new))
         (W.taken sink.old) (W.taken sink.new) line }
-    ensures too_large_refused { words.now ≡ eval_words
+    ensures refused { (command : Asked) → command_of words.now ≡ Some command
         → ¬ (Rose (S.faults source.old) (S.faults source.new))
         → (xs : List ℕ) → S.left source.old ≡ Some xs
-        → most_bytes < length xs
-        → (result ≡ 1) ⊎ (result ≡ 5) }
-    ensures not_built_refused { words.now ≡ eval_words
-        → ¬ (Rose (S.faults source.old) (S.faults source.new))
-        → (xs : List ℕ) → S.left source.old ≡ Some xs
-        → ((tree : Stms) → ¬ (IsProgram xs tree))
+        → (cause : List ℕ) → Refuses command xs cause
         → (result ≡ 1) ⊎ (result ≡ 5) }
 
     // 4 comes only where a write failed. A prefix of the output is written.
@@ -79,12 +77,12 @@ pub fn top_eval<S: Source, W: Sink>(
         → (out : List ℕ) × Writes words.now xs 0 out
         × Adds (W.taken sink.old) (W.taken sink.new) out }
 
-    // Where the input is a program and nothing failed, 0 comes, or 5.
-    ensures complete { words.now ≡ eval_words
+    // Where the command has an output for its input and nothing failed, 0 comes, or 5.
+    ensures complete { (command : Asked) → command_of words.now ≡ Some command
         → ¬ (Rose (S.faults source.old) (S.faults source.new))
         → ¬ (Rose (W.faults sink.old) (W.faults sink.new))
         → (xs : List ℕ) → S.left source.old ≡ Some xs
-        → (tree : Stms) → IsProgram xs tree
+        → (out : List ℕ) → Outputs command xs out
         → (result ≡ 0) ⊎ (result ≡ 5) }
 
     // At most 16,777,217 bytes are read. Counts never fall.
@@ -92,99 +90,66 @@ pub fn top_eval<S: Source, W: Sink>(
     ensures source_count { S.faults source.old ≤ S.faults source.new }
     ensures sink_count { W.faults sink.old ≤ W.faults sink.new }
 {
-    if !is_eval(words) {
+    one_tree();
+    program_or_none();
+    let Some(command) = command_of(words) else {
         refuse(sink, b"refused: words\n");
         return 2;
-    }
+    };
     match read_program(alloc, source) {
-        Ok(program) => run(alloc, sink, &program),
+        Ok(program) => run(alloc, sink, command, &program),
         Err(ProgramStop::TooLarge) => {
             refuse(sink, b"refused: too large\n");
             1
         }
-        Err(ProgramStop::NotBuiltYet) => {
-            refuse(sink, b"refused: not built yet\n");
-            1
-        }
+        Err(ProgramStop::Refused(stop)) => refuse_source(alloc, sink, stop),
         Err(ProgramStop::ReadFailed) => 3,
         Err(ProgramStop::OutOfMemory) => 5,
     }
 }
 
-/// Why there is no program.
-#[derive(Clone, Copy, Debug, PartialEq, Eq)]
-enum ProgramStop {
-    /// More than 16,777,216 bytes were read.
-    TooLarge,
-    /// The input is no program of sums.
-    NotBuiltYet,
-    ReadFailed,
-    OutOfMemory,
-}
-
-impl From<InputStop> for ProgramStop {
-    ghost use Rattle.std.specs.Prelude.{◌≡◌};
-    ghost use Rattle.hog_runner.specs.Stops.{of_input};
-
-    ghost from_gives = { λ stop e. e ≡ of_input stop };
-
-    fn from(stop: InputStop) -> ProgramStop {
-        match stop {
-            InputStop::TooLarge => ProgramStop::TooLarge,
-            InputStop::Failed => ProgramStop::ReadFailed,
-            InputStop::OutOfMemory => ProgramStop::OutOfMemory,
-        }
-    }
-}
-
-impl From<SumsStop> for ProgramStop {
-    ghost use Rattle.std.specs.Prelude.{◌≡◌};
-    ghost use Rattle.hog_runner.specs.Stops.{of_sums};
-
-    ghost from_gives = { λ stop e. e ≡ of_sums stop };
-
-    fn from(stop: SumsStop) -> ProgramStop {
-        match stop {
-            SumsStop::NotBuiltYet => ProgramStop::NotBuiltYet,
-            SumsStop::OutOfMemory => ProgramStop::OutOfMemory,
-        }
-    }
-}
-
-/// Reads the program that the source has.
-fn read_program<S: Source>(alloc: Global, source: &mut S) -> Result<Tree, ProgramStop>
-    ensures program { IfOk result (λ tree. (xs : List ℕ) → S.left source.old ≡ Some xs
-        → IsProgram xs (tree_of tree)) }
-    ensures sums { IfOk result (λ tree. IsSums (tree_of tree)) }
-    ensures end { OnOk result ((xs : List ℕ) → S.left source.old ≡ Some xs
-        → S.left source.new ≡ Some []) }
-    ensures large { result ≡ Err ProgramStop.TooLarge
-        → (xs : List ℕ) → S.left source.old ≡ Some xs → most_bytes < length xs }
-    ensures small { result ≡ Err ProgramStop.NotBuiltYet
-        → (xs : List ℕ) → S.left source.old ≡ Some xs → length xs ≤ most_bytes }
-    ensures not_built { result ≡ Err ProgramStop.NotBuiltYet
-        → (xs : List ℕ) → S.left source.old ≡ Some xs → (tree : Stms) → ¬ (IsProgram xs tree) }
-    ensures failed { result ≡ Err ProgramStop.ReadFailed
-        → Rose (S.faults source.old) (S.faults source.new) }
-    ensures bounded { TakesAtMost (most_bytes + 1) (S.left source.old) (S.left source.new) }
-    ensures count { S.faults source.old ≤ S.faults source.new }
-{
-    let text = read_all(alloc, source)?;
-    let program = read_sums(alloc, &text)?;
-    Ok(program)
-}
-
-/// Runs a program, and writes what it shows. Answers the status.
-fn run<W: Sink>(alloc: Global, sink: &mut W, program: &Tree) -> u8
-    requires { IsSums (tree_of program.now) }
-    ensures statuses { (result ≡ 0) ⊎ ((result ≡ 4) ⊎ (result ≡ 5)) }
-    ensures done { result ≡ 0
-        → Adds (W.taken sink.old) (W.taken sink.new) (output_of (meaning (tree_of program.now))) }
-    ensures prefix { AddsPrefix (W.taken sink.old) (W.taken sink.new)
-        (output_of (meaning (tree_of program.now))) }
+/// Does what the command asks for with a program. Answers the status.
+fn run<W: Sink>(alloc: Global, sink: &mut W, command: Command, program: &Tree) -> u8
+    ensures statuses { (result ≡ 0) ⊎ ((result ≡ 1) ⊎ ((result ≡ 4) ⊎ (result ≡ 5))) }
+    ensures done { result ≡ 0 → (out : List ℕ) × Gives command (tree_of program.now) out
+        × Adds (W.taken sink.old) (W.taken sink.new) out }
+    ensures refused { result ≡ 1 → (cause : List ℕ) × Lacks command (tree_of program.now) cause
+        × AddsUnless (Rose (W.faults sink.old) (W.faults sink.new))
+        (W.taken sink.old) (W.taken sink.new) (refusal cause) }
     ensures failed { result ≡ 4 → Rose (W.faults sink.old) (W.faults sink.new) }
+    ensures failed_prefix { result ≡ 4 → (out : List ℕ) × Gives command (tree_of program.now) out
+        × AddsPrefix (W.taken sink.old) (W.taken sink.new) out }
+    ensures no_memory_prefix { result ≡ 5 → (sink.new ≡ sink.old)
+        ⊎ ((out : List ℕ) × Gives command (tree_of program.now) out
+        × AddsPrefix (W.taken sink.old) (W.taken sink.new) out) }
     ensures count { W.faults sink.old ≤ W.faults sink.new }
 {
+    match command {
+        Command::Eval => run_eval(alloc, sink, program),
+        Command::Fmt => run_fmt(alloc, sink, program),
+    }
+}
+
+/// Runs a program, and writes what it shows.
+fn run_eval<W: Sink>(alloc: Global, sink: &mut W, program: &Tree) -> u8
+    ensures statuses { (result ≡ 0) ⊎ ((result ≡ 1) ⊎ ((result ≡ 4) ⊎ (result ≡ 5))) }
+    ensures done { result ≡ 0 → (out : List ℕ) × Gives Command.Eval (tree_of program.now) out
+        × Adds (W.taken sink.old) (W.taken sink.new) out }
+    ensures refused { result ≡ 1 → (cause : List ℕ) × Lacks Command.Eval (tree_of program.now) cause
+        × AddsUnless (Rose (W.faults sink.old) (W.faults sink.new))
+        (W.taken sink.old) (W.taken sink.new) (refusal cause) }
+    ensures failed { result ≡ 4 → Rose (W.faults sink.old) (W.faults sink.new) }
+    ensures failed_prefix { result ≡ 4 → (out : List ℕ) × Gives Command.Eval (tree_of program.now) out
+        × AddsPrefix (W.taken sink.old) (W.taken sink.new) out }
+    ensures no_memory_prefix { result ≡ 5 → (sink.new ≡ sink.old)
+        ⊎ ((out : List ℕ) × Gives Command.Eval (tree_of program.now) out
+        × AddsPrefix (W.taken sink.old) (W.taken sink.new) out) }
+    ensures count { W.faults sink.old ≤ W.faults sink.new }
+{
+    if !is_sums(program) {
+        refuse(sink, b"refused: not built yet\n");
+        return 1;
+    }
     let Ok(shown) = evaluate(alloc, program) else {
         return 5;
     };
@@ -193,6 +158,42 @@ fn run<W: Sink>(alloc: Global, sink: &mut W, program: &Tree) -> u8
         Err(OutputStop::Failed) => 4,
         Err(OutputStop::OutOfMemory) => 5,
     }
+}
+
+/// Writes the printed text of a program.
+fn run_fmt<W: Sink>(alloc: Global, sink: &mut W, program: &Tree) -> u8
+    ensures statuses { (result ≡ 0) ⊎ ((result ≡ 1) ⊎ ((result ≡ 4) ⊎ (result ≡ 5))) }
+    ensures done { result ≡ 0 → (out : List ℕ) × Gives Command.Fmt (tree_of program.now) out
+        × Adds (W.taken sink.old) (W.taken sink.new) out }
+    ensures taken { ¬ (result ≡ 1) }
+    ensures failed { result ≡ 4 → Rose (W.faults sink.old) (W.faults sink.new) }
+    ensures failed_prefix { result ≡ 4 → (out : List ℕ) × Gives Command.Fmt (tree_of program.now) out
+        × AddsPrefix (W.taken sink.old) (W.taken sink.new) out }
+    ensures no_memory { result ≡ 5 → sink.new ≡ sink.old }
+    ensures count { W.faults sink.old ≤ W.faults sink.new }
+{
+    let Ok(text) = print_tree(alloc, program) else {
+        return 5;
+    };
+    match write_whole(sink, text.bytes()) {
+        Ok(()) => 0,
+        Err(_) => 4,
+    }
+}
+
+/// Writes the line of the refusal of a source that is no program. Answers the status: 1, or 5 with nothing written.
+fn refuse_source<W: Sink>(alloc: Global, sink: &mut W, stop: BuildStop) -> u8
+    ensures statuses { (result ≡ 1) ⊎ (result ≡ 5) }
+    ensures line { result ≡ 1 → AddsUnless (Rose (W.faults sink.old) (W.faults sink.new))
+        (W.taken sink.old) (W.taken sink.new) (refusal (cause_of stop)) }
+    ensures no_memory { result ≡ 5 → sink.new ≡ sink.old }
+    ensures count { W.faults sink.old ≤ W.faults sink.new }
+{
+    let Ok(line) = refusal_of(alloc, stop) else {
+        return 5;
+    };
+    refuse(sink, line.as_bytes());
+    1
 }
 
 /// Writes the line of a refusal. A fault leaves a prefix of it.

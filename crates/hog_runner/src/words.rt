@@ -1,17 +1,37 @@
 //! The words that the program takes.
 
-ghost use Rattle.std.specs.Prelude.{◌≡◌, ◌↔◌, IsTrue};
-ghost use Rattle.hog_runner.specs.Writes.{eval_words};
+ghost use Rattle.std.specs.Prelude.{◌≡◌};
+ghost use Rattle.hog_runner.specs.Commands.{command_of, named};
 
 use hog_value::HogText;
 use std::convert::AsStr;
 
-/// Whether the words are the one word `eval`.
-pub fn is_eval(words: &[HogText]) -> bool
-    ensures { IsTrue result ↔ (words.now ≡ eval_words) }
+/// What the program can do.
+#[derive(Clone, Copy, Debug, PartialEq, Eq)]
+pub enum Command {
+    /// Runs a program.
+    Eval,
+    /// Prints the tree of a program.
+    Fmt,
+}
+
+/// The command that the words ask for, if they are one.
+pub fn command_of(words: &[HogText]) -> Option<Command>
+    ensures { result ≡ command_of words.now }
 {
     match words {
-        [word] => word.as_str() == "eval",
-        _ => false,
+        [word] => named(word),
+        _ => None,
+    }
+}
+
+/// The command of that name.
+fn named(word: &HogText) -> Option<Command>
+    ensures { result ≡ named word.now }
+{
+    match word.as_str() {
+        "eval" => Some(Command::Eval),
+        "fmt" => Some(Command::Fmt),
+        _ => None,
     }
 }

@@ -93,7 +93,7 @@ fn answers(rt: HostRuntime) -> Result<(), Fail> {
         let bytes = Vec::from_slice(alloc, row.input.as_bytes())?;
         let mut source = MemSource::new(bytes, Vec::from_slice(alloc, row.failing_reads)?);
         let mut sink = MemSink::new(alloc, row.room, Vec::from_slice(alloc, row.failing_writes)?)?;
-        let status = top_eval(alloc, &words, &mut source, &mut sink);
+        let status = top_program(alloc, &words, &mut source, &mut sink);
         assert_eq!(rt; status, row.status, "of {:?}", row.input);
         assert_eq!(rt; sink.bytes(), row.written.as_bytes(), "of {:?}", row.input);
     }
@@ -110,7 +110,7 @@ fn refuses_a_byte_too_many(rt: HostRuntime) -> Result<(), Fail> {
     ] {
         let mut source = MemSource::new(vec![in alloc; b' '; length]?, Vec::new(alloc));
         let mut sink = MemSink::new(alloc, 100, Vec::new(alloc))?;
-        assert_eq!(rt; top_eval(alloc, &words, &mut source, &mut sink), 1);
+        assert_eq!(rt; top_program(alloc, &words, &mut source, &mut sink), 1);
         assert_eq!(rt; sink.bytes(), written.as_bytes());
     }
     Ok(())
@@ -158,7 +158,7 @@ fn goes_on_after_a_part(rt: HostRuntime) -> Result<(), Fail> {
         let mut source = Drip(MemSource::new(bytes, Vec::new(alloc)));
         let sink = MemSink::new(alloc, 100, Vec::from_slice(alloc, failing_writes)?)?;
         let mut sink = Drip(sink);
-        assert_eq!(rt; top_eval(alloc, &words, &mut source, &mut sink), status);
+        assert_eq!(rt; top_program(alloc, &words, &mut source, &mut sink), status);
         assert_eq!(rt; sink.0.bytes(), written.as_bytes());
     }
     Ok(())

@@ -1,6 +1,6 @@
 use Rattle.std.proofs.Common.{◌≡◌, ◌+◌, ◌-◌, ◌≤◌, ◌<◌, [], vec_len}
 use Rattle.hog_runner.specs.Takes.{Moves}
-use Rattle.hog_runner.specs.Writes.{most_bytes}
+use Rattle.hog_runner.specs.Commands.{most_bytes}
 use Rattle.hog_runner.proofs.input.read_all.Given as goal
 
 -- the text is what the source gave so far

@@ -1,0 +1,78 @@
+//! Reading the program that a source has.
+
+ghost use Rattle.std.specs.Prelude.{◌≡◌, ℕ, ◌+◌, ◌<◌, ◌≤◌, List, [], length, IfOk, OnOk, Err};
+ghost use Rattle.hog_outside.specs.Faults.{Rose};
+ghost use Rattle.hog_tree.specs.View.{tree_of};
+ghost use Rattle.hog_program.specs.Source.{IsProgram, IsNone};
+ghost use Rattle.hog_program.specs.declared.stop.BuildStop.{BuildStop as Stop};
+ghost use Rattle.hog_runner.specs.Commands.{most_bytes};
+ghost use Rattle.hog_runner.specs.Takes.{TakesAtMost};
+
+use crate::input::{InputStop, read_all};
+use hog_outside::Source;
+use hog_program::{BuildStop, read_tree};
+use hog_tree::tree::Tree;
+use std::alloc::Global;
+
+/// Why there is no program.
+#[derive(Clone, Copy, Debug, PartialEq, Eq)]
+pub enum ProgramStop {
+    /// More than 16,777,216 bytes were read.
+    TooLarge,
+    /// What was read is no program.
+    Refused(BuildStop),
+    ReadFailed,
+    OutOfMemory,
+}
+
+impl From<InputStop> for ProgramStop {
+    ghost use Rattle.std.specs.Prelude.{◌≡◌};
+    ghost use Rattle.hog_runner.specs.Stops.{of_input};
+
+    ghost from_gives = { λ stop e. e ≡ of_input stop };
+
+    fn from(stop: InputStop) -> ProgramStop {
+        match stop {
+            InputStop::TooLarge => ProgramStop::TooLarge,
+            InputStop::Failed => ProgramStop::ReadFailed,
+            InputStop::OutOfMemory => ProgramStop::OutOfMemory,
+        }
+    }
+}
+
+impl From<BuildStop> for ProgramStop {
+    ghost use Rattle.std.specs.Prelude.{◌≡◌};
+    ghost use Rattle.hog_runner.specs.Stops.{of_build};
+
+    ghost from_gives = { λ stop e. e ≡ of_build stop };
+
+    fn from(stop: BuildStop) -> ProgramStop {
+        match stop {
+            BuildStop::OutOfMemory => ProgramStop::OutOfMemory,
+            other => ProgramStop::Refused(other),
+        }
+    }
+}
+
+/// Reads the program that the source has.
+pub fn read_program<S: Source>(alloc: Global, source: &mut S) -> Result<Tree, ProgramStop>
+    ensures program { IfOk result (λ tree. (xs : List ℕ) → S.left source.old ≡ Some xs
+        → IsProgram xs (tree_of tree)) }
+    ensures small { IfOk result (λ tree. (xs : List ℕ) → S.left source.old ≡ Some xs
+        → length xs ≤ most_bytes) }
+    ensures end { OnOk result ((xs : List ℕ) → S.left source.old ≡ Some xs
+        → S.left source.new ≡ Some []) }
+    ensures large { result ≡ Err ProgramStop.TooLarge
+        → (xs : List ℕ) → S.left source.old ≡ Some xs → most_bytes < length xs }
+    ensures refused { (stop : Stop) → result ≡ Err (ProgramStop.Refused stop)
+        → (xs : List ℕ) → S.left source.old ≡ Some xs
+        → (length xs ≤ most_bytes) × IsNone xs stop }
+    ensures failed { result ≡ Err ProgramStop.ReadFailed
+        → Rose (S.faults source.old) (S.faults source.new) }
+    ensures bounded { TakesAtMost (most_bytes + 1) (S.left source.old) (S.left source.new) }
+    ensures count { S.faults source.old ≤ S.faults source.new }
+{
+    let text = read_all(alloc, source)?;
+    let tree = read_tree(alloc, &text)?;
+    Ok(tree)
+}
