@@ -100,18 +100,109 @@ fn answers(rt: HostRuntime) -> Result<(), Fail> {
     Ok(())
 }
 
+/// What a command answers to an input over streams that don't fail.
+fn answer(alloc: Global, word: &str, input: &[u8]) -> Result<(u8, MemSink), Fail> {
+    let words = given(alloc, &[word])?;
+    let mut source = MemSource::new(Vec::from_slice(alloc, input)?, Vec::new(alloc));
+    let mut sink = MemSink::new(alloc, 1000, Vec::new(alloc))?;
+    let status = top_program(alloc, &words, &mut source, &mut sink);
+    Ok((status, sink))
+}
+
 #[test]
-fn refuses_a_byte_too_many(rt: HostRuntime) -> Result<(), Fail> {
+fn refuses_sources(rt: HostRuntime) -> Result<(), Fail> {
+    let rows: [(&[u8], &str); 9] = [
+        (b"let x := \"a\";", "refused: bad byte at 9\n"),
+        (b"'a\\q'", "refused: bad byte at 2\n"),
+        (b"'abc", "refused: unclosed at 0\n"),
+        (
+            b"return 9223372036854775808;",
+            "refused: too large a number at 7\n",
+        ),
+        (b"return (1;", "refused: syntax at 9\n"),
+        (b"[,]", "refused: syntax at 1\n"),
+        (b"x -> {} + 1", "refused: syntax at 8\n"),
+        (b"\xff", "refused: not utf8 at 0\n"),
+        (b"'\xc3\xa9\xc3", "refused: not utf8 at 3\n"),
+    ];
+    for (source, line) in rows {
+        for word in ["eval", "fmt"] {
+            let (status, sink) = answer(rt.alloc(), word, source)?;
+            assert_eq!(rt; status, 1);
+            assert_eq!(rt; sink.bytes(), line.as_bytes(), "of {:?}", source);
+        }
+    }
+    Ok(())
+}
+
+#[test]
+fn refuses_what_is_too_much(rt: HostRuntime) -> Result<(), Fail> {
     let alloc = rt.alloc();
-    let words = given(alloc, &["eval"])?;
-    for (length, written) in [
-        (16_777_216, "refused: not built yet\n"),
-        (16_777_217, "refused: too large\n"),
+    let words = given(alloc, &["fmt"])?;
+    for (length, status, written) in [
+        (16_384, 0, ""),
+        (16_385, 1, "refused: program too long\n"),
+        (16_777_216, 1, "refused: program too long\n"),
+        (16_777_217, 1, "refused: too large\n"),
     ] {
         let mut source = MemSource::new(vec![in alloc; b' '; length]?, Vec::new(alloc));
         let mut sink = MemSink::new(alloc, 100, Vec::new(alloc))?;
-        assert_eq!(rt; top_program(alloc, &words, &mut source, &mut sink), 1);
+        assert_eq!(rt; top_program(alloc, &words, &mut source, &mut sink), status);
         assert_eq!(rt; sink.bytes(), written.as_bytes());
+    }
+    Ok(())
+}
+
+/// `return 1;` in so many pairs of parentheses.
+fn nested(alloc: Global, pairs: usize) -> Result<Vec<u8>, Fail> {
+    let mut source = Vec::from_slice(alloc, b"return ")?;
+    for _ in 0..pairs {
+        source.push(b'(')?;
+    }
+    source.push(b'1')?;
+    for _ in 0..pairs {
+        source.push(b')')?;
+    }
+    Ok(source)
+}
+
+#[test]
+fn height_of_a_program(rt: HostRuntime) -> Result<(), Fail> {
+    let alloc = rt.alloc();
+    // The statement, the pairs and the number.
+    for (pairs, status, written) in [
+        (98, 0, "return 1;\n"),
+        (99, 1, "refused: too nested at 106\n"),
+        (101, 1, "refused: too nested at 106\n"),
+    ] {
+        let (answered, sink) = answer(alloc, "fmt", &nested(alloc, pairs)?)?;
+        assert_eq!(rt; answered, status, "of {pairs} pairs");
+        assert_eq!(rt; sink.bytes(), written.as_bytes());
+    }
+    Ok(())
+}
+
+#[test]
+fn prints_trees(rt: HostRuntime) -> Result<(), Fail> {
+    let rows = [
+        ("", ""),
+        ("// nothing\n;", ""),
+        (
+            "let  x:=1+2*3 if(x>1){print('it\\'s')}",
+            "let x := 1 + (2 * 3);\nif (x > 1) {\n    print('it\\'s');\n}\n",
+        ),
+        (
+            "if (a) if (b) c; else d",
+            "if (a) {\n    if (b) {\n        c;\n    } else {\n        d;\n    }\n}\n",
+        ),
+        ("for(({});;){}", "for (({}); ; ) {\n}\n"),
+        ("f'a{1+2}\\{'; ({}); 1 .w", "f'a{1 + 2}\\{';\n({});\n(1).w;\n"),
+        ("let f := x -> { return x }", "let f := (x) -> { return x; };\n"),
+    ];
+    for (source, printed) in rows {
+        let (status, sink) = answer(rt.alloc(), "fmt", source.as_bytes())?;
+        assert_eq!(rt; status, 0, "of {source}");
+        assert_eq!(rt; sink.bytes(), printed.as_bytes(), "of {source}");
     }
     Ok(())
 }
