@@ -1,2 +1,5 @@
 pub mod Source
 pub mod Stops
+pub mod Prelude
+pub mod Build
+pub mod Placing

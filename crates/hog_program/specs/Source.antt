@@ -48,7 +48,7 @@ pub record IsTooNested (text : List ℕ) (at : ℕ) : Type 0 where
 abbrev pub IsFault : List ℕ → Fault → ℕ → Type 0
 IsFault text f at = (length text ≤ longest) × IsUtf8 text × IsFirstFault text f at
 
--- Why the text is no program.
+-- Why the text is no program. The stops of names aren't among the causes: a program may have faults of names.
 abbrev pub IsNone : List ℕ → BuildStop → Type 0
 IsNone text stop.TooLong = longest < length text
 IsNone text (stop.NotUtf8 at) = (length text ≤ longest) × ¬ (IsUtf8 text) × IsValidUpTo text at
@@ -57,4 +57,8 @@ IsNone text (stop.Unclosed at) = IsFault text fault.Unclosed at
 IsNone text (stop.TooLarge at) = IsFault text fault.TooLarge at
 IsNone text (stop.Syntax at) = (length text ≤ longest) × IsUnspelled text
 IsNone text (stop.TooNested at) = (length text ≤ longest) × IsTooNested text at
+IsNone text (stop.AlreadyDeclared at) = ⊥
+IsNone text (stop.AssignsUnknown at) = ⊥
+IsNone text (stop.UnknownFunction at) = ⊥
+IsNone text (stop.WrongCount at) = ⊥
 IsNone text stop.OutOfMemory = ⊥

@@ -6,6 +6,7 @@
 #![tactic(auto)]
 
 pub mod laws;
+mod prelude;
 pub mod source;
 pub mod stop;
 

@@ -1,6 +1,7 @@
 //! Why a source is no program.
 
 use hog_parser::ParseStop;
+use hog_scope::ScopeStop;
 use hog_tokens::LexStop;
 use std::alloc::AllocError;
 
@@ -21,6 +22,14 @@ pub enum BuildStop {
     Syntax { at: usize },
     /// Its tokens spell no tree of a height of at most 100, which is passed at `at`.
     TooNested { at: usize },
+    /// The scope of a name declares it already.
+    AlreadyDeclared { at: usize },
+    /// A word is assigned, and no declaration of it is in sight.
+    AssignsUnknown { at: usize },
+    /// A word is called, no declaration of it is in sight, and it names no native.
+    UnknownFunction { at: usize },
+    /// A native doesn't take so many arguments.
+    WrongCount { at: usize },
     OutOfMemory,
 }
 
@@ -63,6 +72,23 @@ impl From<ParseStop> for BuildStop {
             ParseStop::Syntax { at } => BuildStop::Syntax { at },
             ParseStop::TooNested { at } => BuildStop::TooNested { at },
             ParseStop::OutOfMemory => BuildStop::OutOfMemory,
+        }
+    }
+}
+
+impl From<ScopeStop> for BuildStop {
+    ghost use Rattle.std.specs.Prelude.{◌≡◌};
+    ghost use Rattle.hog_program.specs.Stops.{of_scope};
+
+    ghost from_gives = { λ stop e. e ≡ of_scope stop };
+
+    fn from(stop: ScopeStop) -> BuildStop {
+        match stop {
+            ScopeStop::AlreadyDeclared { at } => BuildStop::AlreadyDeclared { at },
+            ScopeStop::AssignsUnknown { at } => BuildStop::AssignsUnknown { at },
+            ScopeStop::UnknownFunction { at } => BuildStop::UnknownFunction { at },
+            ScopeStop::WrongCount { at } => BuildStop::WrongCount { at },
+            ScopeStop::OutOfMemory => BuildStop::OutOfMemory,
         }
     }
 }

@@ -22,6 +22,10 @@ never one both source tree (stop.TooNested at) p n =
     let same = one source p.list n.1.list p.cut n.1.cut in
     let high : highest < p.height = n.1.high tree p.height (subst (λ l. Spells tree (terminals source l) p.height) same p.spelled) in
     absurd (omega (arith, high, p.low))
+never one both source tree (stop.AlreadyDeclared at) p n = n
+never one both source tree (stop.AssignsUnknown at) p n = n
+never one both source tree (stop.UnknownFunction at) p n = n
+never one both source tree (stop.WrongCount at) p n = n
 never one both source tree stop.OutOfMemory p n = n
 
 pub returns : goal.returns
