@@ -1,17 +1,17 @@
 -- Statements in braces, and what a condition or a loop governs, are read where they are spelled.
-use Rattle.std.proofs.Common.{◌≡◌, ℕ, zero, suc, ◌+◌, ◌<◌, ◌≤◌, max, Bool, true, false, List, [], ◌∷◌, ◌++◌, length, Option, Some, None, Result, Ok, Err, cond, refl, sym, ap, ◌∙◌, append_assoc, zero-add, arith, length-append, inl, inr}
-use Rattle.hog_tree.specs.Plain.{Exp, Stm, Let, Assign, Do, Return, Throw, If, While, For, ForIn, Fun, Try, Block, Stms, Done, Then, OptionExp, NoneExp, SomeExp, OptionStms, NoneStms, SomeStms}
+use Rattle.std.proofs.Common.{◌≡◌, ℕ, zero, suc, ◌+◌, ◌<◌, max, true, false, List, [], ◌∷◌, ◌++◌, length, None, Ok, cond, refl, ap, ◌∙◌, append_assoc, arith, length-append, inl, inr}
+use Rattle.hog_tree.specs.Plain.{Stm, Let, Assign, Do, Return, Throw, If, While, For, ForIn, Fun, Try, Block, Stms, Done, Then, OptionExp, NoneExp, SomeExp, OptionStms, NoneStms, SomeStms}
 use Rattle.hog_grammar.specs.Terminal.{Terminal}
 use Rattle.hog_grammar.specs.Terminal as k
-use Rattle.hog_grammar.specs.Forms.{Phrase, ends_block, begins_brace, begins_else, semis, Braced, Empty, Listed, Governed, Only, NoElse}
+use Rattle.hog_grammar.specs.Forms.{ends_block, begins_else, semis, Braced, Governed}
 use Rattle.hog_grammar.specs.Spelling.{OfStm, OfStms, OnlyOne, OfElse, Declared}
-use Rattle.hog_parser.specs.Marks.{after_semi, after_open_brace, after_close_brace, after_else}
-use Rattle.hog_parser.specs.Read.{Fault, Syntax, Got, got, ◌>>=◌, wants, either_way, Read, Readers, first, leveled, several, put_stm, braced, closed_brace}
+use Rattle.hog_parser.specs.Marks.{after_semi, after_open_brace}
+use Rattle.hog_parser.specs.Read.{Got, got, ◌>>=◌, either_way, Read, first, leveled, several, put_stm, braced, closed_brace}
 use Rattle.hog_parser.specs.ReadStatements.{readers, begun, plain, governed, only, otherwise, some_block}
 use Rattle.hog_parser.proofs.Begin.{no_brace_none, no_else_none}
-use Rattle.hog_parser.proofs.Climb.{Ends, ends, deeper, same_ends, at_height, bind_ends, at_own}
+use Rattle.hog_parser.proofs.Climb.{Ends, ends, same_ends, at_height, bind_ends, at_own}
 use Rattle.hog_parser.proofs.Lists.{pred_of}
-use Rattle.hog_parser.proofs.Forms.{Spelled, spelled_above}
+use Rattle.hog_parser.proofs.Forms.{spelled_above}
 use Rattle.hog_parser.proofs.Plains.{block_semi}
 
 pub not_semi : (d : ℕ) (ts : List Terminal) (g : Got Stm) → (readers d).statement ts ≡ Ok g → after_semi ts ≡ None

@@ -1,11 +1,11 @@
 -- What reading does at one step.
-use Rattle.std.proofs.Common.{◌≡◌, ℕ, zero, suc, ◌+◌, ◌<◌, ◌≤◌, true, false, List, [], length, Result, Ok, Err, cond, refl, ap, ◌∙◌, subst, arith, ⊎_elim}
+use Rattle.std.proofs.Common.{◌≡◌, ℕ, zero, suc, ◌+◌, ◌<◌, ◌≤◌, true, false, List, length, Result, Ok, Err, cond, refl, ap, ◌∙◌, subst, arith, ⊎_elim}
 use Rattle.std.specs.Prelude.{nat_lt}
 use Rattle.std.proofs.lemmas.Bool.Decides.{nat_tests, leb_tells}
 use Rattle.hog_tree.specs.Plain.{Exp}
 use Rattle.hog_grammar.specs.Terminal.{Terminal}
 use Rattle.hog_parser.specs.Marks.{lead}
-use Rattle.hog_parser.specs.Read.{Fault, TooNested, Got, got, ◌>>=◌, Readers, first, step, climb, leveled, grown}
+use Rattle.hog_parser.specs.Read.{Fault, TooNested, Got, got, ◌>>=◌, Readers, first, step, climb, leveled}
 use Rattle.hog_parser.specs.ReadStatements.{readers}
 
 pub lt_true : (a b : ℕ) → a < b → nat_lt a b ≡ true

@@ -1,20 +1,22 @@
 -- What spells a program is read, so a list of tokens spells one program at most.
-use Rattle.std.proofs.Common.{◌≡◌, ℕ, zero, suc, ◌+◌, ◌<◌, ◌≤◌, max, Bool, true, false, List, [], ◌∷◌, ◌++◌, length, Option, Some, None, Result, Ok, Err, cond, refl, sym, ap, ◌∙◌, subst, append_assoc, append-nil, arith, length-append, inl, inr}
-use Rattle.std.specs.Prelude.{map}
+use Rattle.std.proofs.Common.{◌≡◌, ℕ, suc, ◌<◌, ◌≤◌, max, true, false, List, [], ◌∷◌, ◌++◌, length, Result, refl, sym, ap, ◌∙◌, subst, append_assoc, append-nil, arith, length-append}
 use Rattle.hog_tree.specs.Plain.{Word, Exp, Int, Truth, Null, Text, Template, Name, Array, Dict, Neg, Not, Binary, Coalesce, Prop, PropNullish, Index, Call, Lambda, Exps, NoExp, MoreExp, Parts, NoPart, MoreText, MoreHole, Pairs, NoPair, MorePair, Body, OneExp, ManyStms, Stm, Let, Assign, Do, Return, Throw, If, While, For, ForIn, Fun, Try, Block, Stms, Done, Then, OptionExp, NoneExp, SomeExp, OptionStm, NoneStm, SomeStm, OptionStms, NoneStms, SomeStms}
 use Rattle.hog_grammar.specs.Terminal.{Terminal, word}
 use Rattle.hog_grammar.specs.Terminal as k
-use Rattle.hog_grammar.specs.Forms.{Phrase, Listing, Governed}
-use Rattle.hog_grammar.specs.Spelling.{level, level_of, tokens_of, Bare, OfBody, OfParts, OfStm, OfStms, OnlyOne, StartOf, StepOf, items, entries, Spells, OneTree}
+use Rattle.hog_grammar.specs.Forms.{Phrase, Listing}
+use Rattle.hog_grammar.specs.Spelling.{level_of, tokens_of, OfBody, OfParts, OnlyOne, items, entries, Spells, OneTree}
 use Rattle.hog_parser.specs.Marks.{after_close, after_close_bracket, after_close_brace, lead}
-use Rattle.hog_parser.specs.Read.{Fault, Syntax, Got, got, ◌>>=◌, either_way, listing, exps, pairs, entry, parts, body, several}
+use Rattle.hog_parser.specs.Read.{Fault, Got, got, listing, entry, parts, body, several}
 use Rattle.hog_parser.specs.ReadStatements.{readers, program, all_read}
-use Rattle.hog_parser.proofs.Begin.{Each, closes_list, closes_array, closes_dictionary, prefix_levels, level_at_least, lead_of, no_brace_none}
+use Rattle.hog_parser.proofs.WordTokens.{Each}
+use Rattle.hog_parser.proofs.Fronts.{closes_list, closes_array, closes_dictionary}
+use Rattle.hog_parser.proofs.Levels.{prefix_levels, level_at_least, lead_of}
+use Rattle.hog_parser.proofs.Begin.{no_brace_none}
 use Rattle.hog_parser.proofs.Climb.{Comes, Ends, ends, deeper, same_ends, at_height, bind_ends}
 use Rattle.hog_parser.proofs.Lists.{Item, listing_ends, pred_of}
 use Rattle.hog_parser.proofs.Moves.{brace_like, stms_move}
-use Rattle.hog_parser.proofs.Forms.{Spelled, BareComes, Reads, reads, at_comes, at_ends, spelled_above, int_comes, truth_comes, null_comes, text_comes, name_comes, neg_comes, not_comes, binary_comes, coalesce_comes, prop_comes, nullish_comes, index_comes, call_comes}
-use Rattle.hog_parser.proofs.Groups.{list_of, exps_list, ItemOf, items_map, pair_list, pairs_list, EntryOf, entries_map, exp_item, entry_item, array_comes, dict_comes, template_comes, parts_above, last_part, text_part, hole_part, one_body_ends, block_body_ends, lambda_comes}
+use Rattle.hog_parser.proofs.Forms.{BareComes, Reads, reads, at_comes, at_ends, spelled_above, int_comes, truth_comes, null_comes, text_comes, name_comes, neg_comes, not_comes, binary_comes, coalesce_comes, prop_comes, nullish_comes, index_comes, call_comes}
+use Rattle.hog_parser.proofs.Groups.{list_of, exps_list, ItemOf, items_map, pair_list, pairs_list, EntryOf, entries_map, exp_item, entry_item, array_comes, dict_comes, template_comes, last_part, text_part, hole_part, one_body_ends, block_body_ends, lambda_comes}
 use Rattle.hog_parser.proofs.Plains.{do_plains, assign_plains, plain_stm, DeclaredReads, no_value, some_value, let_stm, throw_stm, ReturnReads, return_nothing, return_value}
 use Rattle.hog_parser.proofs.Blocks.{StmReads, StmsRead, no_statements, more_statements, braced_reads, GovernedReads, governed_reads, no_one, just_one, ElseReads, no_else, some_else}
 use Rattle.hog_parser.proofs.Loops.{if_stm, while_stm, ConditionReads, no_condition, some_condition, StartReads, no_start, plain_started, let_started, StepReads, no_step, plain_stepped, for_stm, each_stm, fun_stm, try_stm, block_stm}

@@ -1,14 +1,14 @@
 -- A tree has at most two statements and expressions for each of its tokens.
-use Rattle.std.proofs.Common.{◌≡◌, ℕ, zero, suc, ◌+◌, ◌*◌, ◌<◌, ◌≤◌, Bool, true, List, [], ◌∷◌, ◌++◌, length, refl, ap, ◌∙◌, subst, arith, length-append, inl, inr, pos}
+use Rattle.std.proofs.Common.{◌≡◌, ℕ, zero, suc, ◌+◌, ◌*◌, ◌<◌, ◌≤◌, Bool, true, List, [], ◌∷◌, ◌++◌, length, ap, arith, length-append, inl, inr, pos}
 use Rattle.hog_tree.specs.Plain.{Exp, Int, Truth, Null, Text, Template, Name, Array, Dict, Neg, Not, Binary, Coalesce, Prop, PropNullish, Index, Call, Lambda, Exps, NoExp, MoreExp, Parts, NoPart, MoreText, MoreHole, Pairs, NoPair, MorePair, Body, OneExp, ManyStms, Stm, Let, Assign, Do, Return, Throw, If, While, For, ForIn, Fun, Try, Block, Stms, Done, Then, OptionExp, NoneExp, SomeExp, OptionStm, NoneStm, SomeStm, OptionStms, NoneStms, SomeStms}
 use Rattle.hog_tree.specs.declared.tree.BinaryOp.{BinaryOp}
 use Rattle.hog_tree.specs.declared.tree.BinaryOp.TheVariants as o
 use Rattle.hog_grammar.specs.Terminal.{Terminal, word}
 use Rattle.hog_grammar.specs.Terminal as k
 use Rattle.hog_grammar.specs.Forms.{enclosed, semis, Listing, Others, Governed}
-use Rattle.hog_grammar.specs.Spelling.{level, tokens_of, Bare, items, entries, OfParts, OfBody, OfStm, OfStms, OnlyOne, OfElse, Declared, Returned, Condition, Start, StartOf, Step, StepOf, bound, Spells}
+use Rattle.hog_grammar.specs.Spelling.{tokens_of, Bare, items, entries, OfParts, OfBody, OfStm, OfStms, OnlyOne, OfElse, Declared, Returned, Condition, Start, Step, bound, Spells}
 use Rattle.hog_tree.specs.Count.{of_exp, of_exps, of_parts, of_pairs, of_body, of_stm, of_stms, of_option_exp, of_option_stm, of_option_stms}
-use Rattle.hog_parser.proofs.Forms.{Spelled, bare_above}
+use Rattle.hog_parser.proofs.Forms.{Spelled}
 
 -- An expression has fewer than two for each token, so that one is left for a statement of it.
 
@@ -30,7 +30,7 @@ few_int : (n : _) → Few (Int n)
 few_int (pos n) ts h b = omega (arith, ap length b.tokens)
 few_int _ ts h b = absurd b
 
-operator_some : (op : BinaryOp) → 0 < length (tokens_of op)
+pub operator_some : (op : BinaryOp) → 0 < length (tokens_of op)
 operator_some o.Or = omega arith
 operator_some o.And = omega arith
 operator_some o.Equal = omega arith

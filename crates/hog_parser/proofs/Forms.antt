@@ -1,18 +1,18 @@
 -- Forms of expressions that are spelled are read.
-use Rattle.std.proofs.Common.{◌≡◌, ℕ, zero, suc, pos, ◌+◌, ◌<◌, ◌≤◌, max, Bool, true, false, List, [], ◌∷◌, ◌++◌, length, Option, Some, None, Result, Ok, Err, cond, refl, sym, ap, ◌∙◌, subst, append_assoc, zero-add, arith, length-append, inl, inr}
-use Rattle.std.specs.Prelude.{nat_lt, map}
+use Rattle.std.proofs.Common.{◌≡◌, ℕ, zero, suc, pos, ◌+◌, ◌<◌, ◌≤◌, max, Bool, true, false, List, [], ◌∷◌, ◌++◌, length, Ok, Err, cond, refl, ap, ◌∙◌, subst, append_assoc, zero-add, arith, length-append}
 use Rattle.hog_tree.specs.declared.tree.BinaryOp.{BinaryOp}
-use Rattle.hog_tree.specs.Plain.{Word, Exp, Int, Truth, Null, Text, Template, Name, Array, Dict, Neg, Not, Binary, Coalesce, Prop, PropNullish, Index, Call, Lambda, Exps, NoExp, MoreExp, Parts, NoPart, MoreText, MoreHole, Pairs, NoPair, MorePair, Body, OneExp, ManyStms, Stms}
+use Rattle.hog_tree.specs.Plain.{Word, Exp, Int, Truth, Null, Text, Template, Name, Array, Dict, Neg, Not, Binary, Coalesce, Prop, PropNullish, Index, Call, Lambda}
 use Rattle.hog_grammar.specs.Terminal.{Terminal, word}
 use Rattle.hog_grammar.specs.Terminal as k
-use Rattle.hog_grammar.specs.Forms.{Phrase, Leaf, Two, At, enclosed, Listing, NoBrace}
-use Rattle.hog_grammar.specs.Spelling.{level, level_of, tokens_of, names, Bare, truth, Parameters, Alone}
-use Rattle.hog_parser.specs.Marks.{after_close, after_close_bracket, after_close_brace, after_arrow, after_hole, after_word, after_open_brace, lead, begins_arrow, starts}
-use Rattle.hog_parser.specs.Read.{Fault, Syntax, Got, got, ◌>>=◌, wants, either_way, Readers, first, step, listing, exps, pairs, entry, valued, name, parts, put_text, put_hole, body, braced, block_body, one_body, arrow, short_arrow, arrowed, with_body, grown, closed, joined, binary, indexed, called}
+use Rattle.hog_grammar.specs.Forms.{Phrase, At, enclosed}
+use Rattle.hog_grammar.specs.Spelling.{level, level_of, tokens_of, Bare, truth}
+use Rattle.hog_parser.specs.Marks.{after_close, lead, starts}
+use Rattle.hog_parser.specs.Read.{Syntax, got, ◌>>=◌, wants, either_way, first, step, listing, exps, arrow, short_arrow, grown, closed, joined, indexed, called}
 use Rattle.hog_parser.specs.ReadStatements.{readers}
-use Rattle.hog_parser.proofs.Begin.{Each, closes_list, read_starts, prefix_levels, no_arrow, not_parameters, level_at_least, lead_of, step_operator, after_word_reads, no_brace_none}
-use Rattle.hog_parser.proofs.Climb.{Comes, Ends, ends, deeper, same_ends, bind_ends, at_own, finish, from_first, comes_step, lt_true, lt_false}
-use Rattle.hog_parser.proofs.Lists.{Item, listing_ends}
+use Rattle.hog_parser.proofs.WordTokens.{after_word_reads}
+use Rattle.hog_parser.proofs.Begin.{read_starts, no_arrow, not_parameters}
+use Rattle.hog_parser.proofs.Levels.{level_at_least, lead_of, step_operator}
+use Rattle.hog_parser.proofs.Climb.{Comes, Ends, ends, same_ends, bind_ends, at_own, finish, from_first, comes_step, lt_false}
 
 pub level_above : (e : Exp) → (1 ≤ level e) × (level e ≤ 11)
 level_above (Binary op a b) = let l = level_at_least op in (omega (arith, l.0), omega (arith, l.1))

@@ -1,17 +1,18 @@
 -- Arrays, dictionaries, templates and arrows that are spelled are read.
-use Rattle.std.proofs.Common.{◌≡◌, ℕ, zero, suc, ◌+◌, ◌<◌, ◌≤◌, max, Bool, true, false, List, [], ◌∷◌, ◌++◌, length, Option, Some, None, Result, Ok, Err, cond, refl, sym, ap, ◌∙◌, subst, append_assoc, arith, length-append, inl, inr}
+use Rattle.std.proofs.Common.{◌≡◌, ℕ, suc, ◌+◌, ◌<◌, ◌≤◌, max, true, false, List, [], ◌∷◌, ◌++◌, length, None, Ok, Err, cond, refl, ap, ◌∙◌, subst, append_assoc, arith, inl, inr}
 use Rattle.std.specs.Prelude.{nat_lt, map}
 use Rattle.hog_tree.specs.Plain.{Word, Exp, Template, Array, Dict, Lambda, Exps, NoExp, MoreExp, Parts, NoPart, MoreText, MoreHole, Pairs, NoPair, MorePair, Body, OneExp, ManyStms, Stms}
 use Rattle.hog_grammar.specs.Terminal.{Terminal}
 use Rattle.hog_grammar.specs.Terminal as k
-use Rattle.hog_grammar.specs.Forms.{Phrase, Leaf, Two, At, Listing, NoBrace}
-use Rattle.hog_grammar.specs.Spelling.{level, names, Bare, OfParts, Parameters, Alone, items, entries}
-use Rattle.hog_parser.specs.Marks.{Shut, after_close, after_close_bracket, after_close_brace, after_arrow, after_hole, after_open_brace, lead, begins_arrow, starts}
-use Rattle.hog_parser.specs.Read.{Fault, Syntax, Got, got, ◌>>=◌, wants, either_way, Readers, first, listing, exps, pairs, entry, valued, name, parts, put_text, put_hole, body, braced, block_body, one_body, arrow, short_arrow, arrowed, with_body, grown, closed}
+use Rattle.hog_grammar.specs.Forms.{Phrase, Leaf, Two, Listing}
+use Rattle.hog_grammar.specs.Spelling.{names, OfParts, Parameters, items, entries}
+use Rattle.hog_parser.specs.Marks.{Shut, after_close, after_close_bracket, after_close_brace, after_hole, after_open_brace, lead, begins_arrow}
+use Rattle.hog_parser.specs.Read.{Syntax, got, ◌>>=◌, wants, either_way, first, listing, exps, pairs, entry, valued, name, parts, put_text, put_hole, body, braced, block_body, one_body, arrow, short_arrow, arrowed, with_body, grown, closed}
 use Rattle.hog_parser.specs.ReadStatements.{readers}
-use Rattle.hog_parser.proofs.Begin.{Closes, Each, closes_list, no_brace_none}
-use Rattle.hog_parser.proofs.Climb.{Comes, Ends, ends, deeper, same_ends, bind_ends, from_first, lt_true, lt_false}
-use Rattle.hog_parser.proofs.Lists.{Item, listing_ends, pred_of}
+use Rattle.hog_parser.proofs.Fronts.{Closes, closes_list}
+use Rattle.hog_parser.proofs.WordTokens.{Each}
+use Rattle.hog_parser.proofs.Climb.{Comes, Ends, ends, same_ends, bind_ends, from_first, lt_true, lt_false}
+use Rattle.hog_parser.proofs.Lists.{Item, listing_ends}
 use Rattle.hog_parser.proofs.Forms.{Spelled, Reads, spelled_starts}
 
 -- lists of items, and their phrases

@@ -1,13 +1,14 @@
 -- Lists that are spelled are read.
-use Rattle.std.proofs.Common.{◌≡◌, ℕ, zero, suc, ◌+◌, ◌<◌, ◌≤◌, max, Bool, true, false, List, [], ◌∷◌, ◌++◌, length, Option, Some, None, Ok, Err, cond, refl, sym, ap, ◌∙◌, subst, append_assoc, arith, length-append, inl, inr}
+use Rattle.std.proofs.Common.{◌≡◌, ℕ, zero, suc, ◌+◌, ◌<◌, ◌≤◌, max, Bool, true, false, List, [], ◌∷◌, ◌++◌, length, None, Ok, cond, refl, ap, ◌∙◌, append_assoc, arith, length-append, inl, inr}
 use Rattle.std.specs.Prelude.{map}
 use Rattle.hog_grammar.specs.Terminal.{Terminal}
 use Rattle.hog_grammar.specs.Terminal as k
 use Rattle.hog_grammar.specs.Forms.{Phrase, Listing, Others}
-use Rattle.hog_parser.specs.Marks.{Shut, after_comma, lead}
-use Rattle.hog_parser.specs.Read.{Fault, Syntax, Got, got, ◌>>=◌, wants, either_way, Read, closing, put, ended_list, others, some, listing}
-use Rattle.hog_parser.proofs.Begin.{Closes, Each}
-use Rattle.hog_parser.proofs.Climb.{Ends, ends, deeper, same_ends, bind_ends}
+use Rattle.hog_parser.specs.Marks.{Shut, lead}
+use Rattle.hog_parser.specs.Read.{got, ◌>>=◌, wants, either_way, Read, closing, put, ended_list, others, some, listing}
+use Rattle.hog_parser.proofs.Fronts.{Closes}
+use Rattle.hog_parser.proofs.WordTokens.{Each}
+use Rattle.hog_parser.proofs.Climb.{Ends, ends, same_ends, bind_ends}
 
 -- an item is read where nothing goes on from it, and the mark does not begin it
 abbrev pub Item : {A : Type 0} → ℕ → Read A → Shut → (A → Phrase) → A → Type 0

@@ -1,16 +1,16 @@
 -- Conditions, loops, functions and `try` that are spelled are read.
-use Rattle.std.proofs.Common.{◌≡◌, ℕ, zero, suc, ◌+◌, ◌<◌, ◌≤◌, max, Bool, true, false, List, [], ◌∷◌, ◌++◌, length, Option, Some, None, Result, Ok, Err, cond, refl, sym, ap, ◌∙◌, subst, append_assoc, arith, inl, inr}
-use Rattle.hog_tree.specs.Plain.{Word, Exp, Stm, Let, Assign, Do, Return, Throw, If, While, For, ForIn, Fun, Try, Block, Stms, OptionExp, NoneExp, SomeExp, OptionStm, NoneStm, SomeStm, OptionStms, NoneStms, SomeStms}
+use Rattle.std.proofs.Common.{◌≡◌, ℕ, suc, ◌+◌, max, false, List, ◌∷◌, ◌++◌, Option, Some, None, Ok, refl, sym, ap, ◌∙◌, subst, append_assoc, arith, inl, inr}
+use Rattle.hog_tree.specs.Plain.{Word, Exp, Stm, Let, If, While, For, ForIn, Fun, Try, Block, Stms, OptionExp, NoneExp, SomeExp, OptionStm, NoneStm, SomeStm, OptionStms}
 use Rattle.hog_grammar.specs.Terminal.{Terminal}
 use Rattle.hog_grammar.specs.Terminal as k
-use Rattle.hog_grammar.specs.Forms.{Phrase, Statement, Leaf, Listing, Before, Prefixed, Around, Braced, Governed}
-use Rattle.hog_grammar.specs.Spelling.{OfStm, OfStms, OnlyOne, OfElse, Condition, Start, Step, Header, names, bound}
-use Rattle.hog_parser.specs.Marks.{Shut, after_close, after_semi, after_bound, after_catch, lead, starts}
-use Rattle.hog_parser.specs.Read.{Fault, Syntax, Got, got, ◌>>=◌, wants, either_way, Read, Readers, listing, name, braced, grown}
-use Rattle.hog_parser.specs.ReadStatements.{readers, begun, governed, otherwise, condition, in_parentheses, conditional, looped, optional, shut_some, run, run_through, run_over, over_each, block, function, with_parameters, tried}
+use Rattle.hog_grammar.specs.Forms.{Governed}
+use Rattle.hog_grammar.specs.Spelling.{OfStm, OfStms, OnlyOne, Condition, Start, Step, bound}
+use Rattle.hog_parser.specs.Marks.{Shut, after_close, after_semi, after_bound, after_catch, lead}
+use Rattle.hog_parser.specs.Read.{Got, got, ◌>>=◌, wants, either_way, Read, listing, name, braced, grown}
+use Rattle.hog_parser.specs.ReadStatements.{readers, begun, governed, otherwise, condition, in_parentheses, conditional, looped, optional, shut_some, run, run_through, run_over, over_each, block, function, tried}
 use Rattle.hog_parser.proofs.Begin.{starts_no_semi, starts_no_close, starts_unbound}
-use Rattle.hog_parser.proofs.Climb.{Ends, ends, deeper, same_ends, at_height, bind_ends}
-use Rattle.hog_parser.proofs.Forms.{Spelled, Reads, spelled_starts}
+use Rattle.hog_parser.proofs.Climb.{Ends, ends, same_ends, bind_ends}
+use Rattle.hog_parser.proofs.Forms.{Reads, spelled_starts}
 use Rattle.hog_parser.proofs.Groups.{names_end}
 use Rattle.hog_parser.proofs.Plains.{from_begun, Plainly, start_plain, step_plain, Declares, start_declared}
 use Rattle.hog_parser.proofs.Blocks.{StmsRead, GovernedReads, ElseReads, in_braces}

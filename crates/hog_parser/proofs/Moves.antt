@@ -1,10 +1,10 @@
 -- Statements are spelled likewise before all tokens of which the first ones let the same follow.
-use Rattle.std.proofs.Common.{◌≡◌, ℕ, List, [], ◌∷◌, ◌++◌, refl, sym, ap, ◌∙◌, inl, inr}
-use Rattle.hog_tree.specs.Plain.{Exp, Stm, Let, Assign, Do, Return, Throw, If, While, For, ForIn, Fun, Try, Block, Stms, Done, Then, OptionExp, NoneExp, SomeExp, OptionStms, NoneStms, SomeStms}
+use Rattle.std.proofs.Common.{◌≡◌, ℕ, List, [], ◌∷◌, ◌++◌, refl, sym, ◌∙◌, inl, inr}
+use Rattle.hog_tree.specs.Plain.{Stm, Let, Assign, Do, Return, Throw, If, While, For, ForIn, Fun, Try, Block, Stms, Done, Then, NoneExp, SomeExp, OptionStms, NoneStms, SomeStms}
 use Rattle.hog_grammar.specs.Terminal.{Terminal}
 use Rattle.hog_grammar.specs.Terminal as k
-use Rattle.hog_grammar.specs.Forms.{Phrase, Statement, goes_on, ends_block, begins_else, Ended, Returns, Before, Prefixed, Around, Braced, Listed, Empty, Governed, Only, NoElse}
-use Rattle.hog_grammar.specs.Spelling.{OfStm, OfStms, OnlyOne, OfElse, Returned}
+use Rattle.hog_grammar.specs.Forms.{Phrase, Statement, goes_on, ends_block, begins_else, Ended, Returns, Before, Prefixed, Around, Braced, Listed, Governed, Only}
+use Rattle.hog_grammar.specs.Spelling.{OfStm, OfStms, OnlyOne, OfElse}
 
 abbrev pub Like : List Terminal → List Terminal → Type 0
 Like a b = (goes_on a ≡ goes_on b) × (ends_block a ≡ ends_block b) × (begins_else a ≡ begins_else b)

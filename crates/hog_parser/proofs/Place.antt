@@ -1,9 +1,10 @@
 -- The tokens from an index on.
-use Rattle.std.proofs.Common.{◌≡◌, ℕ, zero, suc, ◌+◌, ◌<◌, ◌≤◌, List, [], ◌∷◌, length, refl, ap, ◌∙◌, arith}
-use Rattle.std.specs.Prelude.{get_or, drop, map}
-use Rattle.std.proofs.lemmas.List.{drop_more}
+use Rattle.std.proofs.Common.{◌≡◌, ℕ, zero, suc, ◌+◌, ◌-◌, ◌<◌, ◌≤◌, List, [], ◌∷◌, length, refl, ap, arith, length-drop}
+use Rattle.std.specs.Prelude.{get_or, drop, slice_range}
+use Rattle.std.proofs.lemmas.List.{drop_more, length-map}
 use Rattle.hog_grammar.specs.declared.token.Token.{Token}
-use Rattle.hog_grammar.specs.Terminal.{Terminal, terminals, terminal_of}
+use Rattle.hog_grammar.specs.Terminal.{terminals, terminal_of, CanBeRead, AreReadable}
+use Rattle.std.proofs.lemmas.List.Elements.{All-get_or}
 use Rattle.hog_grammar.specs.Pieces.{AreInOrder}
 
 pub left_at : (text : List ℕ) (list : List Token) (i : ℕ) (d : Token) → i < length list → terminals text (drop i list) ≡ terminal_of text (get_or list i d) ∷ terminals text (drop (i + 1) list)
@@ -23,3 +24,9 @@ pub order_at : (from end : ℕ) (ts : List Token) (i : ℕ) (d : Token) → AreI
 order_at from end [] i d h lt = absurd (omega (arith, lt))
 order_at from end (t ∷ ts) zero d h lt = (omega (arith, h.1), in_order_end t.to end ts h.2)
 order_at from end (t ∷ ts) (suc i) d h lt = order_at t.to end ts i d h.2 (omega (arith, lt))
+
+pub left_length : (text : List ℕ) (list : List Token) (i : ℕ) → length (terminals text (drop i list)) ≡ length list - i
+left_length text list i = simp (length-map, length-drop)
+
+pub readable_at : (text : List ℕ) (list : List Token) (i : ℕ) (d : Token) → AreReadable text list → i < length list → CanBeRead (get_or list i d).kind (slice_range text (get_or list i d).from (get_or list i d).to)
+readable_at text list i d all lt = All-get_or (λ (t : Token). CanBeRead t.kind (slice_range text t.from t.to)) list i d lt all

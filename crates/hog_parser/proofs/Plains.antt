@@ -1,13 +1,13 @@
 -- Assignments, expressions and declarations that are spelled are read, with the `;` after them.
-use Rattle.std.proofs.Common.{◌≡◌, ℕ, zero, suc, ◌+◌, ◌<◌, ◌≤◌, max, Bool, true, false, List, [], ◌∷◌, ◌++◌, length, Option, Some, None, Result, Ok, Err, cond, refl, sym, ap, ◌∙◌, append_assoc, arith, length-append, ◌⊎◌, inl, inr}
+use Rattle.std.proofs.Common.{◌≡◌, ℕ, zero, suc, ◌+◌, ◌<◌, max, true, false, List, [], ◌∷◌, ◌++◌, length, None, Result, Ok, Err, cond, refl, sym, ap, ◌∙◌, append_assoc, arith, length-append, ◌⊎◌, inl, inr}
 use Rattle.hog_tree.specs.Plain.{Word, Exp, Int, Truth, Null, Text, Template, Name, Array, Dict, Neg, Not, Binary, Coalesce, Prop, PropNullish, Index, Call, Lambda, Stm, Let, Assign, Do, Return, Throw, OptionExp, NoneExp, SomeExp}
 use Rattle.hog_grammar.specs.Terminal.{Terminal}
 use Rattle.hog_grammar.specs.Terminal as k
-use Rattle.hog_grammar.specs.Forms.{Phrase, One, NoBrace, goes_on, ends_block, begins_brace, Ending, Ended, Returns}
+use Rattle.hog_grammar.specs.Forms.{Phrase, One, NoBrace, goes_on, ends_block, begins_brace, Ending, Ended}
 use Rattle.hog_grammar.specs.Spelling.{IsTarget, Assigned, Declared, Returned}
 use Rattle.hog_parser.specs.Marks.{after_assign, after_semi, lead, starts, is_target}
-use Rattle.hog_parser.specs.Read.{Fault, Syntax, Got, got, ◌>>=◌, either_way, Readers, grown}
-use Rattle.hog_parser.specs.ReadStatements.{readers, begun, start_of, plain, ended, assigning, assigned, declared, value_of, returned}
+use Rattle.hog_parser.specs.Read.{Fault, Syntax, Got, got, ◌>>=◌, either_way, grown}
+use Rattle.hog_parser.specs.ReadStatements.{readers, begun, start_of, plain, ended, assigning, assigned, declared, value_of}
 use Rattle.hog_parser.proofs.Begin.{plain_begun, plain_start, starts_no_semi, starts_in_block}
 use Rattle.hog_parser.proofs.Climb.{Ends, ends, deeper, same_ends, bind_ends}
 use Rattle.hog_parser.proofs.Forms.{Spelled, Reads, spelled_above, spelled_starts}

@@ -1,15 +1,15 @@
 -- What is read of an expression is spelled by the tokens before the rest.
-use Rattle.std.proofs.Common.{◌≡◌, ℕ, zero, suc, pos, ◌+◌, ◌<◌, ◌≤◌, max, min, Bool, true, false, List, [], ◌∷◌, ◌++◌, length, Option, Some, None, Result, Ok, Err, cond, refl, sym, ap, ◌∙◌, subst, append_assoc, append-nil, zero-add, arith, ◌⊎◌, inl, inr, ⊎_elim}
+use Rattle.std.proofs.Common.{◌≡◌, ℕ, zero, suc, ◌<◌, ◌≤◌, max, Bool, true, false, List, [], ◌∷◌, ◌++◌, length, Option, Some, None, Result, Ok, Err, cond, refl, sym, ap, ◌∙◌, subst, append_assoc, arith, ◌⊎◌, inl, inr}
 use Rattle.std.specs.Prelude.{nat_lt, map}
-use Rattle.std.proofs.lemmas.Bool.Decides.{nat_tests, leb_tells}
-use Rattle.hog_tree.specs.Plain.{Word, Exp, Stm}
+use Rattle.std.proofs.lemmas.Bool.Decides.{nat_tests}
+use Rattle.hog_tree.specs.Plain.{Exp, Stm}
 use Rattle.hog_grammar.specs.Terminal.{Terminal}
 use Rattle.hog_grammar.specs.Terminal as k
 use Rattle.hog_grammar.specs.Forms.{Phrase, Listing, Others}
-use Rattle.hog_grammar.specs.Spelling.{level, Bare, OfStm, StartOf, StepOf}
+use Rattle.hog_grammar.specs.Spelling.{OfStm, StartOf, StepOf}
 use Rattle.hog_parser.specs.Marks.{Shut, after_comma, lead}
-use Rattle.hog_parser.specs.Read.{Fault, Syntax, TooNested, Got, got, ◌>>=◌, wants, either_way, Read, Readers, closing, put, ended_list, others, some, listing}
-use Rattle.hog_parser.proofs.Begin.{Closes, is_comma}
+use Rattle.hog_parser.specs.Read.{Fault, Got, got, ◌>>=◌, wants, either_way, Read, Readers, closing, put, ended_list, others, some, listing}
+use Rattle.hog_parser.proofs.Fronts.{Closes, is_comma}
 use Rattle.hog_parser.proofs.Forms.{Spelled}
 
 pub bind_ok : {A B : Type 0} (r : Result A Fault) (f : A → Result B Fault) (y : B) → (r >>= f) ≡ Ok y → (x : A) × (r ≡ Ok x) × (f x ≡ Ok y)

@@ -1,17 +1,18 @@
 -- Conditions, loops, functions and programs that are read are spelled.
-use Rattle.std.proofs.Common.{◌≡◌, ℕ, zero, suc, ◌+◌, ◌<◌, ◌≤◌, max, Bool, true, false, List, [], ◌∷◌, ◌++◌, length, Option, Some, None, Result, Ok, Err, cond, refl, sym, ap, ◌∙◌, subst, append_assoc, append-nil, arith, ◌⊎◌, inl, inr}
-use Rattle.hog_tree.specs.Plain.{Word, Exp, Stm, Let, Assign, Do, Return, Throw, If, While, For, ForIn, Fun, Try, Block, Stms, Done, Then, OptionExp, NoneExp, SomeExp, OptionStm, NoneStm, SomeStm, OptionStms, NoneStms, SomeStms}
+use Rattle.std.proofs.Common.{◌≡◌, ℕ, zero, suc, ◌+◌, ◌≤◌, max, true, false, List, [], ◌∷◌, ◌++◌, length, Option, Some, None, Ok, Err, refl, sym, ap, ◌∙◌, subst, append_assoc, append-nil, arith, inl, inr}
+use Rattle.hog_tree.specs.Plain.{Word, Exp, Stm, Throw, If, While, For, ForIn, Fun, Try, Block, Stms, Done, Then, NoneExp, SomeExp, NoneStm, SomeStm, OptionStms, NoneStms, SomeStms}
 use Rattle.hog_grammar.specs.Terminal.{Terminal}
 use Rattle.hog_grammar.specs.Terminal as k
-use Rattle.hog_grammar.specs.Forms.{Phrase, ends_block, begins_brace, begins_else, Governed}
-use Rattle.hog_grammar.specs.Spelling.{OfStm, OfStms, OnlyOne, OfElse, StartOf, StepOf, Start, Step, Condition, names, bound, Spells}
+use Rattle.hog_grammar.specs.Forms.{Phrase, ends_block, begins_else, Governed}
+use Rattle.hog_grammar.specs.Spelling.{OfStm, OfStms, OnlyOne, OfElse, StartOf, StepOf, Start, Step, Condition, bound, Spells}
 use Rattle.hog_parser.specs.Marks.{Shut, after_open, after_close, after_open_brace, after_close_brace, after_semi, after_else, after_function, after_catch, after_bound}
-use Rattle.hog_parser.specs.Read.{Fault, Syntax, TooNested, Got, got, ◌>>=◌, wants, either_way, Read, Readers, grown, listing, name, several, braced, leveled}
-use Rattle.hog_parser.specs.ReadStatements.{ended, declared, plain, start_of, in_parentheses, condition, only, governed, some_block, otherwise, conditional, looped, shut_some, optional, run, run_through, run_over, over_each, block, function, with_parameters, tried, begun, nested, readers, all_read, program}
-use Rattle.hog_parser.proofs.Begin.{is_open, is_close, is_open_brace, is_semi, is_else}
+use Rattle.hog_parser.specs.Read.{Syntax, TooNested, Got, got, ◌>>=◌, wants, either_way, Read, Readers, grown, listing, name, several, braced}
+use Rattle.hog_parser.specs.ReadStatements.{in_parentheses, condition, only, governed, some_block, otherwise, conditional, looped, shut_some, optional, run, run_through, run_over, over_each, block, function, with_parameters, tried, begun, readers, all_read, program}
+use Rattle.hog_parser.proofs.Fronts.{is_open, is_close, is_open_brace, is_semi, is_else}
 use Rattle.hog_parser.proofs.Forms.{Spelled}
-use Rattle.hog_parser.proofs.Sound.{bind_ok, cond_ok, unless_ok, choice_ok, wants_ok, either_ok, okay, from_ok, not_ok, Taken, Stated, Leveled, Sound}
-use Rattle.hog_parser.proofs.SoundForms.{UpTo, several_sound, InBraces, braced_sound, no_brace_front, names_sound, leveled_sound}
+use Rattle.hog_parser.proofs.Sound.{bind_ok, wants_ok, either_ok, from_ok, not_ok, Taken, Stated, Sound}
+use Rattle.hog_parser.proofs.SoundParts.{UpTo, several_sound, InBraces, braced_sound, no_brace_front, names_sound}
+use Rattle.hog_parser.proofs.SoundForms.{leveled_sound}
 use Rattle.hog_parser.proofs.SoundStatements.{is_function, is_catch, is_bound, plain_sound, start_sound, plain_stated, let_stated, prefix_stated, return_stated}
 
 -- what is governed

@@ -1,17 +1,17 @@
 -- Statements that are read are spelled by the tokens before the rest.
-use Rattle.std.proofs.Common.{◌≡◌, ℕ, zero, suc, ◌+◌, ◌<◌, ◌≤◌, max, Bool, true, false, List, [], ◌∷◌, ◌++◌, length, Option, Some, None, Result, Ok, Err, cond, refl, sym, ap, ◌∙◌, subst, append_assoc, append-nil, arith, ◌⊎◌, inl, inr}
-use Rattle.hog_tree.specs.Plain.{Word, Exp, Int, Truth, Null, Text, Template, Name, Array, Dict, Neg, Not, Binary, Coalesce, Prop, PropNullish, Index, Call, Lambda, Stm, Let, Assign, Do, Return, Throw, If, While, For, ForIn, Fun, Try, Block, Stms, Done, Then, OptionExp, NoneExp, SomeExp, OptionStm, NoneStm, SomeStm, OptionStms, NoneStms, SomeStms}
+use Rattle.std.proofs.Common.{◌≡◌, ℕ, suc, ◌≤◌, max, true, false, List, [], ◌∷◌, ◌++◌, Option, Some, None, Ok, Err, cond, refl, sym, ap, ◌∙◌, subst, append_assoc, arith, inl, inr}
+use Rattle.hog_tree.specs.Plain.{Word, Exp, Int, Truth, Null, Text, Template, Name, Array, Dict, Neg, Not, Binary, Coalesce, Prop, PropNullish, Index, Call, Lambda, Stm, Let, Assign, Do, Return, Throw, If, While, For, ForIn, Fun, Try, Block, NoneExp, SomeExp}
 use Rattle.hog_grammar.specs.Terminal.{Terminal}
 use Rattle.hog_grammar.specs.Terminal as k
-use Rattle.hog_grammar.specs.Forms.{Phrase, One, Ending, Ended, goes_on, ends_block, begins_brace, begins_else, Governed}
-use Rattle.hog_grammar.specs.Spelling.{OfStm, OfStms, OnlyOne, OfElse, StartOf, StepOf, Start, Step, Condition, Declared, IsTarget, names, bound, Spells}
-use Rattle.hog_parser.specs.Marks.{Shut, after_open, after_close, after_open_brace, after_close_brace, after_semi, after_assign, after_else, after_name, after_function, after_catch, after_bound, lead, is_target}
-use Rattle.hog_parser.specs.Read.{Fault, Syntax, TooNested, Got, got, ◌>>=◌, wants, either_way, Read, Readers, grown, listing, name, several, braced, leveled}
-use Rattle.hog_parser.specs.ReadStatements.{ended, value_of, named, declared, assigned, assigning, plain, start_of, returned, in_parentheses, condition, only, governed, some_block, otherwise, conditional, looped, shut_some, optional, run, run_through, run_over, over_each, block, function, with_parameters, tried, begun, nested, readers, all_read, program}
-use Rattle.hog_parser.proofs.Begin.{is_open, is_close, is_open_brace, is_semi, is_assign, is_else}
+use Rattle.hog_grammar.specs.Forms.{One, Ending, Ended, goes_on, ends_block, begins_brace}
+use Rattle.hog_grammar.specs.Spelling.{OfStm, StartOf, StepOf, IsTarget, bound}
+use Rattle.hog_parser.specs.Marks.{after_semi, after_assign, after_name, after_function, after_catch, after_bound, is_target}
+use Rattle.hog_parser.specs.Read.{Syntax, Got, got, ◌>>=◌, Readers, grown}
+use Rattle.hog_parser.specs.ReadStatements.{ended, value_of, named, declared, assigned, assigning, plain, start_of, returned}
+use Rattle.hog_parser.proofs.Fronts.{is_semi, is_assign}
 use Rattle.hog_parser.proofs.Forms.{Spelled}
-use Rattle.hog_parser.proofs.Sound.{bind_ok, cond_ok, unless_ok, choice_ok, wants_ok, either_ok, okay, from_ok, not_ok, Taken, Stated, Leveled, Sound}
-use Rattle.hog_parser.proofs.SoundForms.{UpTo, several_sound, InBraces, braced_sound, no_brace_front, names_sound, is_name, leveled_sound}
+use Rattle.hog_parser.proofs.Sound.{bind_ok, cond_ok, unless_ok, choice_ok, wants_ok, either_ok, from_ok, Taken, Stated, Sound}
+use Rattle.hog_parser.proofs.SoundParts.{is_name}
 
 -- marks with more than one token
 

@@ -1,8 +1,7 @@
 -- What stands before a place of a text.
-use Rattle.std.specs.Prelude.{ℕ, nat_le, List}
-use Rattle.std.specs.List.{count_by}
+use Rattle.std.specs.Prelude.{ℕ, nat_le, count_by, List}
 use Rattle.hog_grammar.specs.declared.token.Token.{Token}
 
 -- how many of the tokens end at that place or before it
 abbrev pub tokens_before : ℕ → List Token → ℕ
-tokens_before at = count_by (λ (t : Token). nat_le t.to at)
+tokens_before at list = count_by (λ (t : Token). nat_le t.to at) list

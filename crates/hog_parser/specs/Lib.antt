@@ -1,5 +1,6 @@
+pub mod Before
 pub mod Marks
 pub mod Read
 pub mod ReadStatements
 pub mod View
-pub mod Before
+pub mod Gives

@@ -59,6 +59,14 @@ abbrev pub after_else : Shut
 after_else (k.Else ∷ ts) = Some ts
 after_else _ = None
 
+abbrev pub after_in : Shut
+after_in (k.In ∷ ts) = Some ts
+after_in _ = None
+
+abbrev pub after_let : Shut
+after_let (k.Let ∷ ts) = Some ts
+after_let _ = None
+
 abbrev pub after_name : List Terminal → Option (Word × List Terminal)
 after_name (k.Word w ∷ ts) = Some (w, ts)
 after_name _ = None
@@ -73,10 +81,20 @@ abbrev pub after_catch : List Terminal → Option (Word × List Terminal)
 after_catch (k.Catch ∷ k.Open ∷ k.Word w ∷ k.Close ∷ ts) = Some (w, ts)
 after_catch _ = None
 
+-- the second name of a `for .. in` after the first and its comma, and `in`
+abbrev pub after_key : Word → List Terminal → Option ((Option Word × Word) × List Terminal)
+after_key i (k.Word v ∷ k.In ∷ ts) = Some ((Some i, v), ts)
+after_key i _ = None
+
+-- what stands after the first name
+abbrev pub after_first : Word → List Terminal → Option ((Option Word × Word) × List Terminal)
+after_first v (k.In ∷ ts) = Some ((None, v), ts)
+after_first i (k.Comma ∷ ts) = after_key i ts
+after_first i _ = None
+
 -- `let`, the names of a `for .. in`, and `in`
 abbrev pub after_bound : List Terminal → Option ((Option Word × Word) × List Terminal)
-after_bound (k.Let ∷ k.Word v ∷ k.In ∷ ts) = Some ((None, v), ts)
-after_bound (k.Let ∷ k.Word i ∷ k.Comma ∷ k.Word v ∷ k.In ∷ ts) = Some ((Some i, v), ts)
+after_bound (k.Let ∷ k.Word v ∷ ts) = after_first v ts
 after_bound _ = None
 
 abbrev pub is_plain : Terminal → Bool

@@ -1,7 +1,11 @@
 //! What stands at an index: marks, operators, and what they go on with.
 
-ghost use Rattle.std.specs.Prelude.{◌≡◌, option_map};
-ghost use Rattle.hog_parser.specs.Marks.{after_open, after_close, after_close_bracket, after_open_brace, after_close_brace, after_comma, after_semi, after_colon, after_assign, after_arrow, after_hole, after_else, operator, lead, begins_arrow};
+ghost use Rattle.std.specs.Prelude.{◌≡◌, ◌<◌, ◌^◌, ◌∷◌, length, option_map};
+ghost use Rattle.hog_tree.specs.Plain.{Word};
+ghost use Rattle.hog_grammar.specs.Terminal as k;
+ghost use Rattle.hog_grammar.specs.Forms.{goes_on, ends_block};
+ghost use Rattle.hog_grammar.specs.Spelling.{level_of};
+ghost use Rattle.hog_parser.specs.Marks.{after_open, after_close, after_close_bracket, after_open_brace, after_close_brace, after_comma, after_semi, after_colon, after_assign, after_arrow, after_hole, after_else, after_let, after_in, operator, lead, begins_arrow};
 ghost use Rattle.hog_parser.specs.View.{left};
 
 use crate::cursor::next;
@@ -190,4 +194,121 @@ pub fn lead_level(tokens: &Tokens, at: usize) -> u32
         Term::Arrow => 12,
         _ => 0,
     }
+}
+
+/// The level of an operator. Takes no memory.
+pub fn level_of(op: BinaryOp) -> u32
+    ensures { result ≡ level_of op }
+{
+    match op {
+        BinaryOp::Or => 2,
+        BinaryOp::And => 3,
+        BinaryOp::Equal | BinaryOp::NotEqual => 6,
+        BinaryOp::Less | BinaryOp::LessEqual => 6,
+        BinaryOp::Greater | BinaryOp::GreaterEqual => 6,
+        BinaryOp::IsIn | BinaryOp::NotIn => 6,
+        BinaryOp::Plus | BinaryOp::Minus => 7,
+        BinaryOp::Times => 8,
+    }
+}
+
+/// The index after `in`. Takes no memory.
+pub fn in_word(tokens: &Tokens, at: usize) -> Option<usize>
+    ensures { option_map (λ i. left tokens.now i) result ≡ after_in (left tokens.now at) }
+{
+    let (term, after) = next(tokens, at)?;
+    match term {
+        Term::In => Some(after),
+        _ => None,
+    }
+}
+
+/// The index after `let`. Takes no memory.
+pub fn let_word(tokens: &Tokens, at: usize) -> Option<usize>
+    ensures { option_map (λ i. left tokens.now i) result ≡ after_let (left tokens.now at) }
+{
+    let (term, after) = next(tokens, at)?;
+    match term {
+        Term::Let => Some(after),
+        _ => None,
+    }
+}
+
+/// Whether a parenthesis before these tokens is that of an arrow's parameters. Takes no memory.
+pub fn begins_arrow(tokens: &Tokens, at: usize) -> bool
+    ensures { result ≡ begins_arrow (left tokens.now at) }
+{
+    let Some((term, after)) = next(tokens, at) else {
+        return false;
+    };
+    match term {
+        Term::Close => true,
+        Term::Word(_) => goes_on_parameters(tokens, after),
+        _ => false,
+    }
+}
+
+/// Whether a name before these tokens is the first of an arrow's parameters. Takes no memory.
+fn goes_on_parameters(tokens: &Tokens, at: usize) -> bool
+    ensures { (w : Word) → result ≡ begins_arrow (k.Word w ∷ left tokens.now at) }
+{
+    let Some((term, after)) = next(tokens, at) else {
+        return false;
+    };
+    match term {
+        Term::Comma => true,
+        Term::Close => arrow(tokens, after).is_some(),
+        _ => false,
+    }
+}
+
+/// The index of the first token after an opening parenthesis that no expression in parentheses goes on with,
+/// where an arrow's parameters stand there. Takes no memory.
+pub fn arrow_fault(tokens: &Tokens, at: usize) -> usize {
+    let Some((Term::Word(_), after)) = next(tokens, at) else {
+        return at;
+    };
+    match next(tokens, after) {
+        Some((Term::Close, end)) => end,
+        _ => after,
+    }
+}
+
+/// Whether a statement before these tokens needs its own `;`. Takes no memory.
+pub fn goes_on(tokens: &Tokens, at: usize) -> bool
+    ensures { result ≡ goes_on (left tokens.now at) }
+{
+    let Some((term, _)) = next(tokens, at) else {
+        return false;
+    };
+    match term {
+        Term::Open | Term::OpenBracket | Term::Dot | Term::NullishDot => true,
+        Term::Plus | Term::Minus | Term::Star | Term::Coalesce => true,
+        Term::Equal | Term::NotEqual | Term::Less | Term::LessEqual => true,
+        Term::Greater | Term::GreaterEqual | Term::In | Term::Not => true,
+        Term::And | Term::Or | Term::Assign | Term::Arrow | Term::Semi => true,
+        _ => false,
+    }
+}
+
+/// Whether a block or the text ends here. Takes no memory.
+pub fn ends_block(tokens: &Tokens, at: usize) -> bool
+    ensures { result ≡ ends_block (left tokens.now at) }
+{
+    let Some((term, _)) = next(tokens, at) else {
+        return true;
+    };
+    match term {
+        Term::CloseBrace => true,
+        _ => false,
+    }
+}
+
+/// How many tokens there are from the index on. Takes no memory.
+#[tactic(auto, using(crate::proofs::Place::left_length))]
+pub fn remaining(tokens: &Tokens, at: usize) -> usize
+    ensures value { result ≡ length (left tokens.now at) }
+    ensures few { result < 2 ^ 63 }
+{
+    tokens.list().len().saturating_sub(at)
 }

@@ -1,7 +1,9 @@
 //! Tokens as the parser meets them.
 
 ghost use Rattle.std.specs.Prelude.{◌≡◌};
-ghost use Rattle.hog_grammar.specs.Terminal.{word, mark, meaning_of};
+ghost use Rattle.std.specs.Str.{IsUtf8};
+ghost use Rattle.hog_grammar.specs.Terminal.{word, mark, meaning_of, CanBeRead};
+ghost use Rattle.hog_parser.specs.Gives.{IsReadable};
 ghost use Rattle.hog_parser.specs.View.{terminal_is};
 
 use hog_grammar::TokenKind;
@@ -63,7 +65,9 @@ pub enum Term<'t> {
 /// A word, reserved or not.
 #[tactic(auto, unfolding(hog_grammar::specs::Terminal::word))]
 fn reserved<'t>(bytes: &'t [u8]) -> Term<'t>
-    ensures { terminal_is result ≡ word bytes.now }
+    requires { IsUtf8 bytes.now }
+    ensures value { terminal_is result ≡ word bytes.now }
+    ensures readable { IsReadable result }
 {
     match bytes {
         s if b"let".as_slice() == s => Term::Let,
@@ -90,7 +94,8 @@ fn reserved<'t>(bytes: &'t [u8]) -> Term<'t>
 /// A mark of one byte or two.
 #[tactic(auto, unfolding(hog_grammar::specs::Terminal::mark))]
 fn sign<'t>(bytes: &[u8]) -> Term<'t>
-    ensures { terminal_is result ≡ mark bytes.now }
+    ensures value { terminal_is result ≡ mark bytes.now }
+    ensures readable { IsReadable result }
 {
     match bytes {
         s if b"(".as_slice() == s => Term::Open,
@@ -122,7 +127,9 @@ fn sign<'t>(bytes: &[u8]) -> Term<'t>
 
 /// What a token of that kind with these bytes is.
 pub fn meaning<'t>(kind: TokenKind, bytes: &'t [u8]) -> Term<'t>
-    ensures { terminal_is result ≡ meaning_of kind bytes.now }
+    requires { CanBeRead kind bytes.now }
+    ensures value { terminal_is result ≡ meaning_of kind bytes.now }
+    ensures readable { IsReadable result }
 {
     match kind {
         TokenKind::Word => reserved(bytes),

@@ -1,20 +1,17 @@
-//! The printed text of a program.
+//! The printer: the text of a tree, one statement a line.
+//! Stands on hog_grammar, hog_tree and hog_value, and for its laws on hog_tokens and hog_parser.
+//! Above, `print_tree` is used: its text is `printed` of the plain tree;
+//! and `reads_back` is cited: the tokens of a printed program spell that program,
+//! for each program that a text has.
 #![tactic(auto)]
 
-ghost use Rattle.std.specs.Prelude.{◌≡◌, IfOk};
-ghost use Rattle.hog_tree.specs.View.{tree_of};
-ghost use Rattle.hog_printer.specs.Print.{printed};
+mod form;
+pub mod laws;
+mod layout;
+mod printer;
+mod quotes;
+#[cfg(test)]
+mod tests;
+mod words;
 
-use hog_tree::tree::Tree;
-use hog_value::HogText;
-use std::alloc::{AllocError, Global};
-
-/// The printed text of a tree.
-pub fn print_tree(alloc: Global, tree: &Tree) -> Result<HogText, AllocError>
-    ensures text { IfOk result (λ text. text ≡ printed (tree_of tree.now)) }
-{
-    if tree.stmts.list.is_empty() {
-        let _spare: Vec<u8> = Vec::new(alloc);
-    }
-    Err(AllocError)
-}
+pub use printer::print_tree;

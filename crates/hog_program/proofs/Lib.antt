@@ -1,2 +1,4 @@
 pub mod Refusals
 pub mod Preludes
+pub mod PreludeTexts
+pub mod Wholes

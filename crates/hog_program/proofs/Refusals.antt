@@ -14,8 +14,8 @@ use Rattle.hog_tokens.specs.View.{stop_of}
 use Rattle.hog_tokens.specs.declared.lexer.LexStop.{LexStop}
 use Rattle.hog_tokens.specs.declared.lexer.LexStop.TheVariants as lex
 use Rattle.hog_parser.specs.Before.{tokens_before}
-use Rattle.hog_parser.specs.declared.parser.ParseStop.{ParseStop}
-use Rattle.hog_parser.specs.declared.parser.ParseStop.TheVariants as parse
+use Rattle.hog_parser.specs.declared.parsing.ParseStop.{ParseStop}
+use Rattle.hog_parser.specs.declared.parsing.ParseStop.TheVariants as parse
 use Rattle.hog_program.specs.declared.stop.BuildStop.{BuildStop}
 use Rattle.hog_program.specs.declared.stop.BuildStop.TheVariants as stop
 use Rattle.hog_program.specs.Source.{longest, highest, IsNone}

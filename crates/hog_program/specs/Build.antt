@@ -1,10 +1,8 @@
 -- What a source means: its program with what it mentions of the prelude, the code of that, and why there is none.
 use Rattle.std.specs.Prelude.{◌≡◌, ℕ, List, Result, Ok, Err}
 use Rattle.hog_tree.specs.Plain.{Stms}
-use Rattle.hog_ops.specs.Plain.{Ops}
 use Rattle.hog_scope.specs.declared.item.Item.{Item}
 use Rattle.hog_scope.specs.Scopes.{Cause, AlreadyDeclared, AssignsUnknown, UnknownFunction, WrongCount, Fault, items_of}
-use Rattle.hog_compiler.specs.Code.{code_of}
 use Rattle.hog_program.specs.Prelude.{with_prelude}
 use Rattle.hog_program.specs.Source.{IsProgram, IsNone}
 use Rattle.hog_program.specs.declared.stop.BuildStop.{BuildStop}

@@ -1,8 +1,8 @@
 -- Refusals of the lexer, of the parser and of names as refusals of a source.
 use Rattle.hog_tokens.specs.declared.lexer.LexStop.{LexStop}
 use Rattle.hog_tokens.specs.declared.lexer.LexStop.TheVariants as lex
-use Rattle.hog_parser.specs.declared.parser.ParseStop.{ParseStop}
-use Rattle.hog_parser.specs.declared.parser.ParseStop.TheVariants as parse
+use Rattle.hog_parser.specs.declared.parsing.ParseStop.{ParseStop}
+use Rattle.hog_parser.specs.declared.parsing.ParseStop.TheVariants as parse
 use Rattle.hog_scope.specs.declared.stop.ScopeStop.{ScopeStop}
 use Rattle.hog_scope.specs.declared.stop.ScopeStop.TheVariants as scope
 use Rattle.hog_program.specs.declared.stop.BuildStop.{BuildStop}

@@ -2,6 +2,7 @@
 
 ghost use Rattle.std.specs.Prelude.{◌≡◌, ℕ, List};
 ghost use Rattle.hog_tree.specs.Plain.{Stms};
+ghost use Rattle.hog_program.specs.Build.{IsBuilt, IsUnbuilt};
 ghost use Rattle.hog_program.specs.Source.{IsProgram, IsNone};
 ghost use Rattle.hog_program.specs.declared.stop.BuildStop.{BuildStop};
 
@@ -19,4 +20,21 @@ pub fn program_or_none()
 {
     hog_tokens::laws::one_list();
     hog_tokens::laws::not_both();
+}
+
+/// A source has one whole program at most.
+pub fn one_whole()
+    ensures { (source : List ℕ) (a b : Stms) → IsBuilt source a → IsBuilt source b → a ≡ b }
+{
+    hog_tokens::laws::one_list();
+    hog_parser::laws::one_tree();
+}
+
+/// A source that is built has no refusal.
+pub fn built_or_unbuilt()
+    ensures { (source : List ℕ) (whole : Stms) (stop : BuildStop) → IsBuilt source whole → IsUnbuilt source stop → ⊥ }
+{
+    program_or_none();
+    hog_tokens::laws::one_list();
+    hog_parser::laws::one_tree();
 }

@@ -4,11 +4,14 @@ ghost use Rattle.std.specs.Prelude.{◌≡◌, ◌≢◌, ◌≤◌, ◌*◌, �
 ghost use Rattle.hog_tree.specs.Count.{of_stms};
 ghost use Rattle.hog_tree.specs.Plain.{Stms};
 ghost use Rattle.hog_tree.specs.View.{tree_of};
+ghost use Rattle.hog_program.specs.Build.{IsBuilt, IsUnbuilt};
 ghost use Rattle.hog_program.specs.Source.{IsProgram, IsNone};
 ghost use Rattle.hog_program.specs.declared.stop.BuildStop.{BuildStop as Stop};
 
+use crate::prelude::with_prelude;
 use crate::stop::BuildStop;
 use hog_parser::parse;
+use hog_scope::resolve;
 use hog_tokens::lex;
 use hog_tree::tree::Tree;
 use std::alloc::Global;
@@ -32,4 +35,22 @@ pub fn read_tree(alloc: Global, source: &[u8]) -> Result<Tree, BuildStop>
     let tokens = lex(alloc, source)?;
     let tree = parse(alloc, &tokens)?;
     Ok(tree)
+}
+
+/// The whole program of a source, with what it mentions of the prelude, where its names are without fault.
+/// Places in refusals are those in the source. A source is built or it has a refusal, and never both
+/// (`built_or_unbuilt`).
+pub fn read_whole(alloc: Global, source: &[u8]) -> Result<Tree, BuildStop>
+    ensures whole { IfOk result (λ tree. IsBuilt source.now (tree_of tree)) }
+    ensures unbuilt { (stop : Stop) → result ≡ Err stop → stop ≢ BuildStop.OutOfMemory
+        → IsUnbuilt source.now stop }
+{
+    if source.len() > MOST_BYTES {
+        return Err(BuildStop::TooLong);
+    }
+    let tokens = lex(alloc, source)?;
+    let program = parse(alloc, &tokens)?;
+    let whole = with_prelude(alloc, &tokens, program)?;
+    resolve(alloc, &whole)?;
+    Ok(whole)
 }

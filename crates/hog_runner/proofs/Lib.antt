@@ -1,3 +1,2 @@
-pub mod AddedLemmas
 pub mod TakesLemmas
 pub mod TopLemmas

@@ -8,7 +8,7 @@ use Rattle.hogvm.specs.Meaning.{meaning}
 use Rattle.hogvm.specs.Sums.{IsSums}
 use Rattle.hog_runner.specs.declared.words.Command.{Command}
 use Rattle.hog_runner.specs.declared.words.Command.TheVariants.{Eval, Fmt}
-use Rattle.hog_runner.specs.Lines.{output_of}
+use Rattle.line_writer.specs.Lines.{output_of}
 use Rattle.hog_runner.specs.Causes.{cause_of}
 
 -- the command of a name

@@ -1,5 +1,3 @@
-pub mod Lines
-pub mod Added
 pub mod Takes
 pub mod Causes
 pub mod Commands

@@ -1,7 +1,7 @@
 -- What the program answers for its words and its input: a status, and what is written at it.
 use Rattle.std.specs.Prelude.{◌≡◌, ℕ, List, ◌++◌, codes, Some, None}
 use Rattle.hog_runner.specs.Commands.{command_of, Outputs, Refuses}
-use Rattle.hog_runner.specs.Lines.{ended}
+use Rattle.hog_json.specs.Lines.{ended}
 use Rattle.hog_runner.specs.declared.words.Command.{Command}
 
 -- the line of a refusal

@@ -4,7 +4,7 @@ ghost use Rattle.std.specs.Prelude.{◌≡◌, ◌↔◌, ◌⊎◌, ℕ, ◌+�
 ghost use Rattle.std.specs.Prelude.{List, [], length, Some, None};
 ghost use Rattle.hog_outside.specs.Faults.{Rose};
 ghost use Rattle.hog_tree.specs.View.{tree_of};
-ghost use Rattle.hog_runner.specs.Added.{Adds, AddsPrefix, AddsUnless};
+ghost use Rattle.line_writer.specs.Added.{Adds, AddsPrefix, AddsUnless};
 ghost use Rattle.hog_runner.specs.Causes.{cause_of};
 ghost use Rattle.hog_runner.specs.Commands.{command_of, most_bytes, Gives, Lacks, Outputs, Refuses};
 ghost use Rattle.hog_runner.specs.Takes.{TakesAtMost};
@@ -12,7 +12,6 @@ ghost use Rattle.hog_runner.specs.Writes.{Writes, refusal};
 ghost use Rattle.hog_runner.specs.declared.words.Command.{Command as Asked};
 
 use crate::causes::refusal_of;
-use crate::output::{OutputStop, write_shown, write_whole};
 use crate::program::{ProgramStop, read_program};
 use crate::words::{Command, command_of};
 use hog_outside::{Sink, Source};
@@ -23,6 +22,7 @@ use hog_tree::tree::Tree;
 use hog_value::HogText;
 use hogvm::evaluate;
 use hogvm::sums::is_sums;
+use line_writer::{OutputStop, write_shown, write_whole};
 use std::alloc::Global;
 
 /// Does what the words ask for, and answers the status of the program: 0 done, 1 the input is refused,

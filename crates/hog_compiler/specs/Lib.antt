@@ -1,6 +1,0 @@
-pub mod Frees
-pub mod Frames
-pub mod Pieces
-pub mod Code
-pub mod Search
-pub mod Examples

@@ -1,0 +1,11 @@
+mod Escapes
+mod Pieces
+mod Lists
+mod Joins
+mod TextLemmas
+pub mod NulledLemmas
+mod KeysLemmas
+pub mod ReadingLemmas
+pub mod Naturality
+pub mod Growing
+pub mod Staying

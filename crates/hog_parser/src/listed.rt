@@ -1,0 +1,122 @@
+//! What stands between the items of lists and after them.
+
+ghost use Rattle.std.specs.Prelude.{◌≡◌, ◌≤◌, false, IfOk, option_map};
+ghost use Rattle.hog_tree.specs.View.{words_of};
+ghost use Rattle.hog_parser.specs.Marks.{after_comma, after_close};
+ghost use Rattle.hog_parser.specs.Read.{listing, name};
+ghost use Rattle.hog_parser.specs.View.{left};
+ghost use Rattle.hog_parser.specs.Gives.{Gives, shut_of, comma_of, follow_of, follows, StandsAs};
+
+use crate::cursor::next;
+use crate::found::{Found, Stop};
+use crate::marks::{close, close_brace, close_bracket, comma, remaining};
+use crate::term::Term;
+use crate::words::name;
+use hog_grammar::Tokens;
+use hog_tree::tree::Names;
+use std::alloc::Global;
+
+/// The mark that closes a list.
+#[derive(Clone, Copy, Debug, PartialEq, Eq)]
+pub enum Closer {
+    Parenthesis,
+    Bracket,
+    Brace,
+}
+
+/// What follows an item of a list: another item at that index, the list's end before that index, or neither.
+#[derive(Clone, Copy, Debug, PartialEq, Eq)]
+pub enum Follow {
+    More(usize),
+    End(usize),
+    Neither,
+}
+
+/// What stands in a template: characters, the beginning of a hole or the template's end, each with the index
+/// after it, or none of these.
+#[derive(Clone, Copy, Drop)]
+pub enum PartMark<'t> {
+    Characters(&'t [u8], usize),
+    Hole(usize),
+    End(usize),
+    Neither,
+}
+
+/// What stands at an index of a template. Takes no memory.
+pub fn part_at<'t>(tokens: &Tokens<'t>, at: usize) -> PartMark<'t>
+    ensures { StandsAs tokens.now result (left tokens.now at) }
+{
+    let Some((term, after)) = next(tokens, at) else {
+        return PartMark::Neither;
+    };
+    match term {
+        Term::Characters(bytes) => PartMark::Characters(bytes, after),
+        Term::HoleStart => PartMark::Hole(after),
+        Term::TemplateEnd => PartMark::End(after),
+        _ => PartMark::Neither,
+    }
+}
+
+/// The index after the mark. Takes no memory.
+pub fn closing(tokens: &Tokens, closer: Closer, at: usize) -> Option<usize>
+    ensures { option_map (λ i. left tokens.now i) result ≡ shut_of closer (left tokens.now at) }
+{
+    match closer {
+        Closer::Parenthesis => close(tokens, at),
+        Closer::Bracket => close_bracket(tokens, at),
+        Closer::Brace => close_brace(tokens, at),
+    }
+}
+
+/// What follows an item. Before a bracket and a brace one more comma may stand. Takes no memory.
+pub fn following(tokens: &Tokens, closer: Closer, at: usize) -> Follow
+    ensures { follow_of tokens.now result ≡ follows (comma_of closer) (shut_of closer) (left tokens.now at) (after_comma (left tokens.now at)) }
+{
+    let Some(after) = comma(tokens, at) else {
+        return match closing(tokens, closer, at) {
+            Some(end) => Follow::End(end),
+            None => Follow::Neither,
+        };
+    };
+    match closer {
+        Closer::Parenthesis => Follow::More(after),
+        Closer::Bracket | Closer::Brace => match closing(tokens, closer, after) {
+            Some(end) => Follow::End(end),
+            None => Follow::More(after),
+        },
+    }
+}
+
+/// Names with commas between them, and the parenthesis that closes them.
+pub fn names(alloc: Global, tokens: &Tokens, at: usize) -> Result<Found<Names>, Stop>
+    ensures low { IfOk result (λ f. f.height ≡ 0) }
+    ensures gives { Gives words_of tokens.now result (listing name false after_close (left tokens.now at)) }
+{
+    let mut list = Vec::new(alloc);
+    if let Some(at) = close(tokens, at) {
+        return Ok(Found {
+            tree: Names::new(list),
+            height: 0,
+            at,
+        });
+    }
+    let mut begin = at;
+    'items: for _ in 0..remaining(tokens, at) {
+        let Some((word, after)) = name(alloc, tokens, begin)? else {
+            return Err(Stop::Syntax(begin));
+        };
+        list.push(word)?;
+        match following(tokens, Closer::Parenthesis, after) {
+            Follow::More(at) => begin = at,
+            Follow::End(at) => {
+                return Ok(Found {
+                    tree: Names::new(list),
+                    height: 0,
+                    at,
+                });
+            }
+            Follow::Neither => return Err(Stop::Syntax(after)),
+        }
+    }
+    Err(Stop::Syntax(begin))
+}

@@ -1,0 +1,19 @@
+mod Examples
+pub mod Tokens
+pub mod Fit
+pub mod Starts
+pub mod Spelled
+pub mod Meant
+pub mod Kept
+pub mod Added
+pub mod Pieces
+pub mod Quoted
+pub mod Chars
+pub mod WordPieces
+pub mod Stands
+pub mod Literals
+pub mod Operators
+pub mod Quietly
+pub mod Printed
+pub mod FromText
+pub mod Law
