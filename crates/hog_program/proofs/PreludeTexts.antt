@@ -1,7 +1,8 @@
 -- The texts of the prelude's functions are those of its trees.
 use Rattle.std.proofs.Common.{◌≡◌, ℕ, suc, pos, ◌*◌, ◌<◌, ◌≤◌, List, [], ◌∷◌, length, codes, refl, sym, ap, ◌∙◌, subst, arith}
 use Rattle.std.specs.Fmt.{digits}
-use Rattle.hog_tree.specs.Plain.{Stm, Stms, Done, Then}
+use Rattle.hog_tree.specs.declared.tree.BinaryOp.TheVariants.{Plus}
+use Rattle.hog_tree.specs.Plain.{Stm, Stms, Done, Then, Name, Call, Binary, Int, MoreExp, NoExp}
 use Rattle.hog_grammar.specs.declared.token.Token.{Token}
 use Rattle.hog_grammar.specs.Bytes.{class, Letter, is_word, AllOf}
 use Rattle.hog_grammar.specs.Spelling.{Spells}
@@ -12,7 +13,7 @@ use Rattle.hog_parser.proofs.Climb.{Ends, ends, deeper}
 use Rattle.hog_parser.proofs.Complete.{program_reads}
 use Rattle.hog_parser.proofs.Nested.{passed_late}
 use Rattle.hog_printer.specs.Print.{printed}
-use Rattle.hog_printer.proofs.Fit.{IsWord, IsFree, FitStms, FitStm}
+use Rattle.hog_printer.proofs.Fit.{IsFree, FitStms, FitExp}
 use Rattle.hog_printer.proofs.Tokens.{stms_tokens}
 use Rattle.hog_printer.proofs.Pieces.{has_tokens}
 use Rattle.hog_printer.proofs.Printed.{program_prints}
@@ -50,19 +51,19 @@ x_free = free_word 120 [] refl tt refl
 
 length_free : IsFree (codes "length")
 unfolding class word
-length_free = free_word 108 (codes "ength") refl (refl, refl, refl, refl, refl, tt) refl
+length_free = free_word 108 (codes "ength") refl (refl, (refl, (refl, (refl, (refl, tt))))) refl
 
 map_free : IsFree (codes "arrayMap")
 unfolding class word
-map_free = free_word 97 (codes "rrayMap") refl (refl, refl, refl, refl, refl, refl, refl, tt) refl
+map_free = free_word 97 (codes "rrayMap") refl (refl, (refl, (refl, (refl, (refl, (refl, (refl, tt))))))) refl
 
 filter_free : IsFree (codes "arrayFilter")
 unfolding class word
-filter_free = free_word 97 (codes "rrayFilter") refl (refl, refl, refl, refl, refl, refl, refl, refl, refl, refl, tt) refl
+filter_free = free_word 97 (codes "rrayFilter") refl (refl, (refl, (refl, (refl, (refl, (refl, (refl, (refl, (refl, (refl, tt)))))))))) refl
 
 exists_free : IsFree (codes "arrayExists")
 unfolding class word
-exists_free = free_word 97 (codes "rrayExists") refl (refl, refl, refl, refl, refl, refl, refl, refl, refl, refl, tt) refl
+exists_free = free_word 97 (codes "rrayExists") refl (refl, (refl, (refl, (refl, (refl, (refl, (refl, (refl, (refl, (refl, tt)))))))))) refl
 
 -- a function by itself
 abbrev alone : Stm → Stms
@@ -85,28 +86,34 @@ is_program ss fit few short =
       spelled = subst (λ (ts : List Terminal). Spells ss ts spelled.0) (sym has.meaning) spelled.1;
       low = low_enough ss (stms_tokens ss) spelled.0 spelled.1 few }
 
+next_fits : FitExp (Binary Plus (Call (Name (codes "length")) (MoreExp (Name (codes "r")) NoExp)) (Int (pos 1)))
+next_fits = ((length_free, (r_free, tt)), omega arith)
+
+call_fits : FitExp (Call (Name (codes "f")) (MoreExp (Name (codes "x")) NoExp))
+call_fits = (f_free, (x_free, tt))
+
 map_fits : FitStms (alone array_map)
-map_fits = ((map_free, (f_free, a_free, tt),
-    ((r_free, tt), (tt, x_free, a_free, ((tt, (r_free, ((length_free, (r_free, tt)), omega arith)), (f_free, (x_free, tt))), tt)), r_free, tt)), tt)
+map_fits = ((map_free, (f_free, (a_free, tt)),
+    ((r_free, tt), ((tt, x_free, a_free, ((tt, (r_free, next_fits), call_fits), tt)), (r_free, tt)))), tt)
 
 filter_fits : FitStms (alone array_filter)
-filter_fits = ((filter_free, (f_free, a_free, tt),
-    ((r_free, tt), (tt, x_free, a_free, (((f_free, (x_free, tt)), ((tt, (r_free, ((length_free, (r_free, tt)), omega arith)), x_free), tt), tt), tt)), r_free, tt)), tt)
+filter_fits = ((filter_free, (f_free, (a_free, tt)),
+    ((r_free, tt), ((tt, x_free, a_free, ((call_fits, ((tt, (r_free, next_fits), x_free), tt), tt), tt)), (r_free, tt)))), tt)
 
 exists_fits : FitStms (alone array_exists)
-exists_fits = ((exists_free, (f_free, a_free, tt),
-    ((tt, x_free, a_free, (((f_free, (x_free, tt)), (tt, tt), tt), tt)), tt, tt)), tt)
+exists_fits = ((exists_free, (f_free, (a_free, tt)),
+    ((tt, x_free, a_free, ((call_fits, (tt, tt), tt), tt)), (tt, tt))), tt)
 
 map_printed : printed (alone array_map) ≡ map_text
-unfolding printed digits
+unfolding digits
 map_printed = refl
 
 filter_printed : printed (alone array_filter) ≡ filter_text
-unfolding printed digits
+unfolding digits
 filter_printed = refl
 
 exists_printed : printed (alone array_exists) ≡ exists_text
-unfolding printed digits
+unfolding digits
 exists_printed = refl
 
 short_text : (ss : Stms) (text : List ℕ) → printed ss ≡ text → length text ≤ longest → length (printed ss) ≤ longest

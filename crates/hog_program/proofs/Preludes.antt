@@ -1,5 +1,6 @@
 -- The prelude's functions, placed and read.
-use Rattle.std.proofs.Common.{◌≡◌, ◌≢◌, ℕ, zero, suc, ◌<◌, List, [], ◌∷◌, ◌++◌, length, slice_index_or, Bool, true, false, ◌||◌, if◌then◌else◌, IfOk, Result, Ok, Err, refl, sym, ap, ◌∙◌, arith}
+use Rattle.std.proofs.Common.{◌≡◌, ◌≢◌, ℕ, zero, suc, ◌<◌, List, [], ◌∷◌, ◌++◌, length, slice_index_or, Bool, true, false, ◌||◌, if◌then◌else◌, IfOk, Result, Ok, Err, refl, sym, subst, ap, ◌∙◌, arith}
+use Rattle.std.specs.Bool.{◌==◌}
 use Rattle.hog_tree.specs.declared.tree.Stmt.{Stmt}
 use Rattle.hog_tree.specs.Plain.{Stm, Stms, Done, Then, Block}
 use Rattle.hog_tree.specs.View.{stm_of, stms_from}
@@ -62,3 +63,9 @@ some_statement (x ∷ xs) is same = cc
 
 pub one_behind : (xs : List Stmt) (x : Stmt) → stms_from (xs ++ x ∷ []) ≡ add_stm (stms_from xs) (stm_of x)
 one_behind xs x = stms_from-snoc xs x
+
+never : false ≡ true → ⊥
+never same = cc
+
+pub not_empty : (n m : ℕ) → false ≡ (n == 0) → n ≡ m → m ≡ 0 → ⊥
+not_empty n m full same none = never (subst (λ (k : ℕ). false ≡ (k == 0)) (same ∙ none) full)

@@ -10,6 +10,7 @@ use Rattle.hog_grammar.specs.Pieces.{IsTokensOf}
 use Rattle.hog_grammar.specs.Spelling.{Spells}
 use Rattle.hog_grammar.specs.Terminal.{terminals}
 use Rattle.hog_parser.specs.Before.{tokens_before}
+use Rattle.hog_printer.specs.Print.{printed}
 use Rattle.hog_program.specs.declared.stop.BuildStop.{BuildStop}
 use Rattle.hog_program.specs.declared.stop.BuildStop.TheVariants as stop
 
@@ -62,3 +63,12 @@ IsNone text (stop.AssignsUnknown at) = ⊥
 IsNone text (stop.UnknownFunction at) = ⊥
 IsNone text (stop.WrongCount at) = ⊥
 IsNone text stop.OutOfMemory = ⊥
+
+-- these bytes are no longer than a program may be, and what their tokens spell is no higher
+pub record IsLow (text : List ℕ) (tree : Stms) : Type 0 where
+  pub short : length text ≤ longest
+  pub low : (list : List Token) (height : ℕ) → IsTokensOf text list → Spells tree (terminals text list) height → height ≤ highest
+
+-- The printed text of a program is that program again, where length and height allow.
+abbrev pub ReadsBack : Type 0
+ReadsBack = (text : List ℕ) (tree : Stms) → IsProgram text tree → IsLow (printed tree) tree → IsProgram (printed tree) tree

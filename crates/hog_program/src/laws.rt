@@ -3,7 +3,7 @@
 ghost use Rattle.std.specs.Prelude.{◌≡◌, ℕ, List};
 ghost use Rattle.hog_tree.specs.Plain.{Stms};
 ghost use Rattle.hog_program.specs.Build.{IsBuilt, IsUnbuilt};
-ghost use Rattle.hog_program.specs.Source.{IsProgram, IsNone};
+ghost use Rattle.hog_program.specs.Source.{IsProgram, IsNone, ReadsBack};
 ghost use Rattle.hog_program.specs.declared.stop.BuildStop.{BuildStop};
 
 /// A source is a program with one tree at most.
@@ -37,4 +37,11 @@ pub fn built_or_unbuilt()
     program_or_none();
     hog_tokens::laws::one_list();
     hog_parser::laws::one_tree();
+}
+
+/// The printed text of a program is that program again, where it is no longer and no higher than a program may be.
+pub fn printed_reads_back()
+    ensures { ReadsBack }
+{
+    hog_printer::laws::reads_back();
 }

@@ -1,8 +1,8 @@
-//! Programs of Hog as texts: which sources are programs, and why the others are none.
-//! Stands on hog_tokens, hog_parser, hog_grammar and hog_tree.
-//! Above, `read_tree` gives the tree of a source, or the refusal (`IsProgram`, `IsNone` of specs/Source.antt),
-//! and the laws `one_tree` and `program_or_none` say that a source has one tree, or a refusal, and never both;
-//! so each refusal comes exactly where it should.
+//! Programs of Hog as texts: which sources are programs, what they mention of the prelude, and why others are none.
+//! Stands on hog_tokens, hog_parser, hog_printer, hog_grammar, hog_scope, hog_tree and hog_value.
+//! Above, `read_tree` gives the tree of a source, and `read_whole` the whole program whose names are without fault,
+//! or a refusal (specs/Source.antt, specs/Build.antt); the laws of laws.rt say that a source has one of these or a
+//! refusal, and never both, so each refusal comes exactly where it should.
 #![tactic(auto)]
 
 pub mod laws;
@@ -10,5 +10,5 @@ mod prelude;
 pub mod source;
 pub mod stop;
 
-pub use source::read_tree;
+pub use source::{read_tree, read_whole};
 pub use stop::BuildStop;

@@ -1,18 +1,27 @@
 -- What a command gives for a program, and why it refuses its input, exclude one another.
 use Rattle.std.proofs.Common.{◌≡◌, ◌⊎◌, inl, inr, ℕ, ◌<◌, ◌≤◌, List, length, Option, Some, refl, sym, subst, ◌∙◌, arith}
 use Rattle.hog_tree.specs.Plain.{Stms}
+use Rattle.hog_program.specs.Build.{IsBuilt, IsUnbuilt}
 use Rattle.hog_program.specs.Source.{IsProgram, IsNone}
 use Rattle.hog_program.specs.declared.stop.BuildStop.{BuildStop}
 use Rattle.hog_runner.specs.declared.words.Command.{Command}
 use Rattle.hog_runner.specs.declared.words.Command.TheVariants.{Eval, Fmt}
-use Rattle.hog_runner.specs.Commands.{most_bytes, Gives, Lacks, Outputs, Refuses, TooLarge, NoProgram, NotTaken}
+use Rattle.hog_runner.specs.Commands.{most_bytes, Reads, Rejects, Gives, Lacks, Outputs, Refuses, TooLarge, NoProgram, NotTaken}
 
--- what holds of sources
-abbrev pub OneTree : Type 0
-OneTree = (source : List ℕ) (a b : Stms) → IsProgram source a → IsProgram source b → a ≡ b
+-- what holds of sources: each has one program, or a refusal, and never both
+pub record Laws : Type 0 where
+  pub one_tree : (source : List ℕ) (a b : Stms) → IsProgram source a → IsProgram source b → a ≡ b
+  pub one_whole : (source : List ℕ) (a b : Stms) → IsBuilt source a → IsBuilt source b → a ≡ b
+  pub program_or_none : (source : List ℕ) (tree : Stms) (stop : BuildStop) → IsProgram source tree → IsNone source stop → ⊥
+  pub built_or_unbuilt : (source : List ℕ) (whole : Stms) (stop : BuildStop) → IsBuilt source whole → IsUnbuilt source stop → ⊥
 
-abbrev pub NotBoth : Type 0
-NotBoth = (source : List ℕ) (tree : Stms) (stop : BuildStop) → IsProgram source tree → IsNone source stop → ⊥
+one_program : Laws → (command : Command) (source : List ℕ) (a b : Stms) → Reads command source a → Reads command source b → a ≡ b
+one_program laws Eval source a b p q = laws.one_whole source a b p q
+one_program laws Fmt source a b p q = laws.one_tree source a b p q
+
+pub not_both : Laws → (command : Command) (source : List ℕ) (tree : Stms) (stop : BuildStop) → Reads command source tree → Rejects command source stop → ⊥
+not_both laws Eval source tree stop p n = laws.built_or_unbuilt source tree stop p n
+not_both laws Fmt source tree stop p n = laws.program_or_none source tree stop p n
 
 pub same_command : (o : Option Command) (a b : Command) → o ≡ Some a → o ≡ Some b → a ≡ b
 same_command o a b p q = cc
@@ -22,18 +31,18 @@ gives_or_lacks Eval tree out cause gives lacks = lacks.0 gives.0
 gives_or_lacks Fmt tree out cause gives lacks = lacks
 
 -- where there is something to write, nothing is refused
-pub not_refused : OneTree → NotBoth → (text : List ℕ) (tree : Stms) → IsProgram text tree → length text ≤ most_bytes
-    → (command : Command) (out cause : List ℕ) → Gives command tree out → Refuses command text cause → ⊥
-not_refused one both text tree program small command out cause gives (TooLarge large is) = absurd (omega (arith, small, large))
-not_refused one both text tree program small command out cause gives (NoProgram _ stop none is) = both text tree stop program none
-not_refused one both text tree program small command out cause gives (NotTaken other p lacks) =
-    gives_or_lacks command tree out cause gives (subst (λ t. Lacks command t cause) (one text other tree p program) lacks)
+pub not_refused : Laws → (command : Command) (text : List ℕ) (tree : Stms) → Reads command text tree → length text ≤ most_bytes
+    → (out cause : List ℕ) → Gives command tree out → Refuses command text cause → ⊥
+not_refused laws command text tree program small out cause gives (TooLarge large is) = absurd (omega (arith, small, large))
+not_refused laws command text tree program small out cause gives (NoProgram _ stop none is) = not_both laws command text tree stop program none
+not_refused laws command text tree program small out cause gives (NotTaken other p lacks) =
+    gives_or_lacks command tree out cause gives (subst (λ t. Lacks command t cause) (one_program laws command text other tree p program) lacks)
 
 -- where there is an output, the program is not lacking
-pub not_lacking : OneTree → (text : List ℕ) (tree : Stms) → IsProgram text tree → (command : Command) (out cause : List ℕ)
+pub not_lacking : Laws → (command : Command) (text : List ℕ) (tree : Stms) → Reads command text tree → (out cause : List ℕ)
     → Outputs command text out → Lacks command tree cause → ⊥
-not_lacking one text tree program command out cause o lacks =
-    gives_or_lacks command tree out cause (subst (λ t. Gives command t out) (one text o.tree tree o.program program) o.gives) lacks
+not_lacking laws command text tree program out cause o lacks =
+    gives_or_lacks command tree out cause (subst (λ t. Gives command t out) (one_program laws command text o.tree tree o.program program) o.gives) lacks
 
 -- what is left of the statuses
 pub refused_or_none : (n : ℕ) → (n ≡ 0) ⊎ ((n ≡ 1) ⊎ ((n ≡ 4) ⊎ (n ≡ 5))) → (n ≡ 0 → ⊥) → (n ≡ 4 → ⊥) → (n ≡ 1) ⊎ (n ≡ 5)

@@ -1,6 +1,7 @@
 -- The commands: the words that ask for them, what they write, and why they refuse their input.
 use Rattle.std.specs.Prelude.{◌≡◌, ℕ, ◌<◌, ◌≤◌, List, [], ◌∷◌, ◌++◌, length, codes, bytes_eq, Option, Some, None, if◌then◌else◌}
 use Rattle.hog_tree.specs.Plain.{Stms}
+use Rattle.hog_program.specs.Build.{IsBuilt, IsUnbuilt}
 use Rattle.hog_program.specs.Source.{IsProgram, IsNone}
 use Rattle.hog_program.specs.declared.stop.BuildStop.{BuildStop}
 use Rattle.hog_printer.specs.Print.{printed}
@@ -26,6 +27,17 @@ command_of (word ∷ more ∷ words) = None
 abbrev pub most_bytes : ℕ
 most_bytes = 16777216
 
+-- The program that a command reads: for running it, the whole of it, with what it mentions of the prelude, where its
+-- names are without fault; for printing, its tree.
+abbrev pub Reads : Command → List ℕ → Stms → Type 0
+Reads Eval text tree = IsBuilt text tree
+Reads Fmt text tree = IsProgram text tree
+
+-- why there is no such program
+abbrev pub Rejects : Command → List ℕ → BuildStop → Type 0
+Rejects Eval text stop = IsUnbuilt text stop
+Rejects Fmt text stop = IsNone text stop
+
 -- What a command writes for a program with this tree: the lines of its meaning, or the printed tree. Only programs
 -- of sums are run so far.
 abbrev pub Gives : Command → Stms → List ℕ → Type 0
@@ -40,7 +52,7 @@ Lacks Fmt tree cause = ⊥
 -- what a command writes for its input
 pub record Outputs (command : Command) (text out : List ℕ) : Type 0 where
   pub tree : Stms
-  pub program : IsProgram text tree
+  pub program : Reads command text tree
   pub gives : Gives command tree out
 
 -- Why a command refuses its input, as the line of the refusal says it.
@@ -48,6 +60,6 @@ pub data Refuses (command : Command) (text cause : List ℕ) : Type 0 where
   -- there is too much of it
   TooLarge : most_bytes < length text → cause ≡ codes "too large" → Refuses command text cause
   -- it is no program
-  NoProgram : length text ≤ most_bytes → (stop : BuildStop) → IsNone text stop → cause ≡ cause_of stop → Refuses command text cause
+  NoProgram : length text ≤ most_bytes → (stop : BuildStop) → Rejects command text stop → cause ≡ cause_of stop → Refuses command text cause
   -- it is a program that the command doesn't take
-  NotTaken : (tree : Stms) → IsProgram text tree → Lacks command tree cause → Refuses command text cause
+  NotTaken : (tree : Stms) → Reads command text tree → Lacks command tree cause → Refuses command text cause

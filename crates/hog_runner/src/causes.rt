@@ -21,6 +21,10 @@ pub fn refusal_of(alloc: Global, stop: BuildStop) -> Result<String, AllocError>
         BuildStop::TooLarge { at } => push_place(&mut line, "too large a number at ", at)?,
         BuildStop::Syntax { at } => push_place(&mut line, "syntax at ", at)?,
         BuildStop::TooNested { at } => push_place(&mut line, "too nested at ", at)?,
+        BuildStop::AlreadyDeclared { at } => push_place(&mut line, "already declared at ", at)?,
+        BuildStop::AssignsUnknown { at } => push_place(&mut line, "assigns unknown at ", at)?,
+        BuildStop::UnknownFunction { at } => push_place(&mut line, "unknown function at ", at)?,
+        BuildStop::WrongCount { at } => push_place(&mut line, "wrong count at ", at)?,
         BuildStop::OutOfMemory => {}
     }
     line.push('\n')?;

@@ -1,16 +1,16 @@
 //! Reading the program that a source has.
 
-ghost use Rattle.std.specs.Prelude.{◌≡◌, ℕ, ◌+◌, ◌<◌, ◌≤◌, List, [], length, IfOk, OnOk, Err};
+ghost use Rattle.std.specs.Prelude.{◌≡◌, ◌≢◌, ℕ, ◌+◌, ◌<◌, ◌≤◌, List, [], length, IfOk, OnOk, Err};
 ghost use Rattle.hog_outside.specs.Faults.{Rose};
 ghost use Rattle.hog_tree.specs.View.{tree_of};
-ghost use Rattle.hog_program.specs.Source.{IsProgram, IsNone};
 ghost use Rattle.hog_program.specs.declared.stop.BuildStop.{BuildStop as Stop};
-ghost use Rattle.hog_runner.specs.Commands.{most_bytes};
+ghost use Rattle.hog_runner.specs.Commands.{most_bytes, Reads, Rejects};
 ghost use Rattle.hog_runner.specs.Takes.{TakesAtMost};
 
 use crate::input::{InputStop, read_all};
+use crate::words::Command;
 use hog_outside::Source;
-use hog_program::{BuildStop, read_tree};
+use hog_program::{BuildStop, read_tree, read_whole};
 use hog_tree::tree::Tree;
 use std::alloc::Global;
 
@@ -54,10 +54,26 @@ impl From<BuildStop> for ProgramStop {
     }
 }
 
-/// Reads the program that the source has.
-pub fn read_program<S: Source>(alloc: Global, source: &mut S) -> Result<Tree, ProgramStop>
+/// Reads the program of a text, as the command asks for it.
+fn read_text(alloc: Global, command: Command, text: &[u8]) -> Result<Tree, BuildStop>
+    ensures reads { IfOk result (λ tree. Reads command text.now (tree_of tree)) }
+    ensures rejects { (stop : Stop) → result ≡ Err stop → stop ≢ BuildStop.OutOfMemory
+        → Rejects command text.now stop }
+{
+    match command {
+        Command::Eval => read_whole(alloc, text),
+        Command::Fmt => read_tree(alloc, text),
+    }
+}
+
+/// Reads the program that the source has, as the command asks for it.
+pub fn read_program<S: Source>(
+    alloc: Global,
+    command: Command,
+    source: &mut S,
+) -> Result<Tree, ProgramStop>
     ensures program { IfOk result (λ tree. (xs : List ℕ) → S.left source.old ≡ Some xs
-        → IsProgram xs (tree_of tree)) }
+        → Reads command xs (tree_of tree)) }
     ensures small { IfOk result (λ tree. (xs : List ℕ) → S.left source.old ≡ Some xs
         → length xs ≤ most_bytes) }
     ensures end { OnOk result ((xs : List ℕ) → S.left source.old ≡ Some xs
@@ -66,13 +82,13 @@ pub fn read_program<S: Source>(alloc: Global, source: &mut S) -> Result<Tree, Pr
         → (xs : List ℕ) → S.left source.old ≡ Some xs → most_bytes < length xs }
     ensures refused { (stop : Stop) → result ≡ Err (ProgramStop.Refused stop)
         → (xs : List ℕ) → S.left source.old ≡ Some xs
-        → (length xs ≤ most_bytes) × IsNone xs stop }
+        → (length xs ≤ most_bytes) × Rejects command xs stop }
     ensures failed { result ≡ Err ProgramStop.ReadFailed
         → Rose (S.faults source.old) (S.faults source.new) }
     ensures bounded { TakesAtMost (most_bytes + 1) (S.left source.old) (S.left source.new) }
     ensures count { S.faults source.old ≤ S.faults source.new }
 {
     let text = read_all(alloc, source)?;
-    let tree = read_tree(alloc, &text)?;
+    let tree = read_text(alloc, command, &text)?;
     Ok(tree)
 }

@@ -17,7 +17,7 @@ use crate::words::{Command, command_of};
 use hog_outside::{Sink, Source};
 use hog_printer::print_tree;
 use hog_program::BuildStop;
-use hog_program::laws::{one_tree, program_or_none};
+use hog_program::laws::{built_or_unbuilt, one_tree, one_whole, program_or_none};
 use hog_tree::tree::Tree;
 use hog_value::HogText;
 use hogvm::evaluate;
@@ -91,12 +91,14 @@ pub fn top_program<S: Source, W: Sink>(
     ensures sink_count { W.faults sink.old ≤ W.faults sink.new }
 {
     one_tree();
+    one_whole();
     program_or_none();
+    built_or_unbuilt();
     let Some(command) = command_of(words) else {
         refuse(sink, b"refused: words\n");
         return 2;
     };
-    match read_program(alloc, source) {
+    match read_program(alloc, command, source) {
         Ok(program) => run(alloc, sink, command, &program),
         Err(ProgramStop::TooLarge) => {
             refuse(sink, b"refused: too large\n");

@@ -3,7 +3,7 @@ use Rattle.hog_tree.specs.View.{tree_of}
 use Rattle.hog_runner.specs.Commands.{Refuses, Outputs, TooLarge, NoProgram, NotTaken, command_of}
 use Rattle.hog_runner.specs.Writes.{Refused, Done, refusal}
 use Rattle.hog_runner.specs.Causes.{cause_of}
-use Rattle.hog_runner.proofs.TopLemmas.{same_command, not_refused, not_lacking, refused_or_none, done_or_none}
+use Rattle.hog_runner.proofs.TopLemmas.{Laws, same_command, not_both, not_refused, not_lacking, refused_or_none, done_or_none}
 use Rattle.hog_runner.proofs.top.top_program.Goals as goal
 
 pub returns-in-Ok-clause-refused_line : goal.returns-in-Ok-clause-refused_line
@@ -14,13 +14,14 @@ returns-in-Ok-clause-refused_line g c one xs told =
 
 pub returns-in-Ok-clause-refused : goal.returns-in-Ok-clause-refused
 returns-in-Ok-clause-refused g c command asked calm xs told cause why =
+    let laws : Laws = record { one_tree = c.one_tree.ensures; one_whole = c.one_whole.ensures; program_or_none = c.program_or_none.ensures; built_or_unbuilt = c.built_or_unbuilt.ensures } in
     let here = sym c.command_of.ensures ∙ c.in-Some.is in
     let why2 = subst (λ x. Refuses x xs cause) (same_command (command_of c.args.words.now) command c.in-Some.command asked here) why in
     let program = c.in-Ok.ensures.program xs told in
     let small = c.in-Ok.ensures.small xs told in
     refused_or_none c.run.result c.run.ensures.statuses
-        (λ zero. let d = c.run.ensures.done zero in not_refused c.one_tree.ensures c.program_or_none.ensures xs _ program small c.in-Some.command d.0 cause d.1 why2)
-        (λ four. let d = c.run.ensures.failed_prefix four in not_refused c.one_tree.ensures c.program_or_none.ensures xs _ program small c.in-Some.command d.0 cause d.1 why2)
+        (λ zero. let d = c.run.ensures.done zero in not_refused laws c.in-Some.command xs _ program small d.0 cause d.1 why2)
+        (λ four. let d = c.run.ensures.failed_prefix four in not_refused laws c.in-Some.command xs _ program small d.0 cause d.1 why2)
 
 pub returns-in-Ok-clause-write_failed_prefix : goal.returns-in-Ok-clause-write_failed_prefix
 returns-in-Ok-clause-write_failed_prefix g c four xs told =
@@ -43,11 +44,12 @@ returns-in-Ok-clause-done_output g c zero xs told =
 
 pub returns-in-Ok-clause-complete : goal.returns-in-Ok-clause-complete
 returns-in-Ok-clause-complete g c command asked calm_source calm_sink xs told out o =
+    let laws : Laws = record { one_tree = c.one_tree.ensures; one_whole = c.one_whole.ensures; program_or_none = c.program_or_none.ensures; built_or_unbuilt = c.built_or_unbuilt.ensures } in
     let here = sym c.command_of.ensures ∙ c.in-Some.is in
     let o2 = subst (λ x. Outputs x xs out) (same_command (command_of c.args.words.now) command c.in-Some.command asked here) o in
     let program = c.in-Ok.ensures.program xs told in
     done_or_none c.run.result c.run.ensures.statuses
-        (λ one. let r = c.run.ensures.refused one in not_lacking c.one_tree.ensures xs _ program c.in-Some.command out r.0 o2 r.1)
+        (λ one. let r = c.run.ensures.refused one in not_lacking laws c.in-Some.command xs _ program out r.0 o2 r.1)
         (λ four. calm_sink (c.run.ensures.failed four))
 
 pub returns-in-Err-TooLarge-clause-refused_line : goal.returns-in-Err-TooLarge-clause-refused_line
@@ -66,4 +68,7 @@ returns-in-Err-Refused-clause-refused_line g c one xs told =
 pub returns-in-Err-Refused-clause-complete : goal.returns-in-Err-Refused-clause-complete
 returns-in-Err-Refused-clause-complete g c command asked calm_source calm_sink xs told out o =
     let r = c.in-Err-Refused.ensures.refused c.in-Err-Refused.stop (ap Err c.in-Err-Refused.field-0-is) xs told in
-    absurd (c.program_or_none.ensures xs o.tree c.in-Err-Refused.stop o.program r.1)
+    let laws : Laws = record { one_tree = c.one_tree.ensures; one_whole = c.one_whole.ensures; program_or_none = c.program_or_none.ensures; built_or_unbuilt = c.built_or_unbuilt.ensures } in
+    let here = sym c.command_of.ensures ∙ c.in-Some.is in
+    let o2 = subst (λ x. Outputs x xs out) (same_command (command_of c.args.words.now) command c.in-Some.command asked here) o in
+    absurd (not_both laws c.in-Some.command xs o2.tree c.in-Err-Refused.stop o2.program r.1)
