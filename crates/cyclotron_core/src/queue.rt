@@ -14,7 +14,7 @@ ghost use Rattle.cyclotron_core.specs.Refusals.{IsOwner, IsOwnedBy, BeganAt, Run
 
 use crate::put::{put_back, put_beat, put_new, put_reply, put_run, put_sweep, put_take};
 use crate::stop::{EnqueueStop, TakeStop};
-use cyclotron_jobs::bytes::Bytes;
+use hog_value::items::Bytes;
 use cyclotron_jobs::course::Course;
 use cyclotron_jobs::entry::Entry;
 use cyclotron_jobs::input::{JobInput, Replies, Reply};

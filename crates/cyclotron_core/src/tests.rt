@@ -2,7 +2,7 @@
 
 use crate::queue::QueueState;
 use crate::stop::{EnqueueStop, TakeStop};
-use cyclotron_jobs::bytes::Bytes;
+use hog_value::items::Bytes;
 use cyclotron_jobs::course::Course;
 use cyclotron_jobs::input::{Answers, JobInput, Replies, Reply};
 use cyclotron_jobs::lease::{Advance, Answered};

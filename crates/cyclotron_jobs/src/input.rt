@@ -1,8 +1,14 @@
 //! What a job begins with, and the replies that it gets.
 
-ghost use Rattle.std.specs.Prelude.{◌≡◌, ◌<◌, ◌↔◌, IsTrue, IfOk, vec_len, vec_capacity};
+ghost use Rattle.std.specs.Prelude.{◌≡◌, ◌<◌, ◌≤◌, ◌↔◌, Some, IsTrue, IfOk, vec_len, vec_capacity};
+ghost use Rattle.serde_json.specs.Data.{depth};
+ghost use Rattle.serde_json.specs.Read.{read};
+ghost use Rattle.serde_json.specs.View.{view};
+ghost use Rattle.hog_json.specs.Nulled.{nulled, nulled_text};
 
+use hog_json::nulled_text;
 use hog_value::text::HogText;
+use serde_json::Value;
 use std::alloc::{AllocError, Global};
 use std::marker::Model;
 
@@ -46,6 +52,21 @@ pub struct JobInput {
 }
 
 impl Reply {
+    /// The reply with this body: its compact JSON text, with null for each number that isn't a whole number
+    /// of 64 bits. The text reads as JSON. The body is nested at most 127 deep.
+    pub fn new(alloc: Global, status: u16, body: &Value) -> Result<Reply, AllocError>
+        requires { depth (view body.now) ≤ 127 }
+        ensures status { IfOk result (λ r. r.status ≡ status) }
+        ensures body { IfOk result (λ r. r.body ≡ nulled_text (view body.now)) }
+        ensures reads { IfOk result (λ r. read r.body ≡ Some (nulled (view body.now))) }
+    {
+        let kept = nulled_text(alloc, body)?;
+        Ok(Reply {
+            status,
+            body: kept.text,
+        })
+    }
+
     pub fn copy(&self) -> Result<Reply, AllocError>
         ensures { IfOk result (λ r. r ≡ self.now) }
     {

@@ -1,9 +1,9 @@
 //! What a worker holds of a job, and what it hands back.
 
-use crate::bytes::Bytes;
 use crate::course::Course;
 use crate::input::{JobInput, Replies, Reply};
 use crate::row::{After, QueueName};
+use hog_value::items::Bytes;
 use hog_value::trace::{Request, Shown};
 use lock_ids::lock::LockId;
 use std::marker::{Model, PhantomData};

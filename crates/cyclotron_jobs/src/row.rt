@@ -2,9 +2,9 @@
 
 ghost use Rattle.std.specs.Prelude.{◌≡◌, IfOk};
 
-use crate::bytes::Bytes;
 use crate::input::{JobInput, Replies};
 use crate::sweeps::Sweeps;
+use hog_value::items::Bytes;
 use hog_value::trace::{Request, Shown};
 use lock_ids::lock::LockId;
 use std::alloc::AllocError;

@@ -1,7 +1,8 @@
 //! Lines.
 
-ghost use Rattle.std.specs.Prelude.{◌≡◌, ◌++◌, OnOk, IfOk, string_bytes};
+ghost use Rattle.std.specs.Prelude.{◌≡◌, OnOk, IfOk};
 ghost use Rattle.hog_printer.specs.Print.{indentation, line_end, within};
+ghost use Rattle.hog_printer.specs.View.{Adds};
 
 use std::alloc::AllocError;
 
@@ -29,7 +30,7 @@ pub fn within(at: Layout) -> Result<Layout, AllocError>
 
 /// Adds the spaces before a line.
 fn indent(out: &mut String, depth: usize) -> Result<(), AllocError>
-    ensures { OnOk result (string_bytes out.new ≡ string_bytes out.old ++ indentation depth) }
+    ensures { OnOk result (Adds out.old out.new (indentation depth)) }
 {
     for _ in 0..depth {
         out.push_str("    ")?;
@@ -39,7 +40,7 @@ fn indent(out: &mut String, depth: usize) -> Result<(), AllocError>
 
 /// Adds the end of a line, and what stands before the next.
 pub fn end_line(out: &mut String, at: Layout) -> Result<(), AllocError>
-    ensures { OnOk result (string_bytes out.new ≡ string_bytes out.old ++ line_end at) }
+    ensures { OnOk result (Adds out.old out.new (line_end at)) }
 {
     match at {
         Layout::Lines(depth) => {

@@ -1,9 +1,10 @@
 //! Expressions, statements and programs.
 
-ghost use Rattle.std.specs.Prelude.{◌≡◌, ◌++◌, OnOk, IfOk, string_bytes, codes};
+ghost use Rattle.std.specs.Prelude.{◌≡◌, ◌++◌, OnOk, IfOk, codes};
 ghost use Rattle.hog_tree.specs.Plain.{Dict, Text, Template, NoPart};
-ghost use Rattle.hog_tree.specs.View.{exp_of, exps_from, part_of, parts_from, pairs_from, dict_of, body_of, stm_of, stms_from, option_exp_from, option_stm_from, option_stms_from, tree_of};
-ghost use Rattle.hog_printer.specs.Print.{held, form_of, is_compound, is_held_base, expression, items, more_items, parts, pairs, more_pairs, body, value, returned, condition, clause, step, statement, otherwise, lines, braced, within, printed};
+ghost use Rattle.hog_tree.specs.View.{exp_of, exps_from, part_of, parts_from, dict_of, body_of, stm_of, stms_from, option_exp_from, option_stm_from, tree_of};
+ghost use Rattle.hog_printer.specs.Print.{held, form_of, is_compound, is_held_base, expression, items, parts, body, condition, clause, step, statement, lines, braced, within, printed};
+ghost use Rattle.hog_printer.specs.View.{Adds};
 
 use crate::form::{form_of, is_compound, is_dict, is_held_base, is_held_body};
 use crate::layout::{Layout, end_line, within};
@@ -16,7 +17,7 @@ use std::convert::AsStr;
 
 // Adds a text in its quotes.
 fn text(out: &mut String, bytes: &HogText) -> Result<(), AllocError>
-    ensures { OnOk result (string_bytes out.new ≡ string_bytes out.old ++ expression (Text bytes.now)) }
+    ensures { OnOk result (Adds out.old out.new (expression (Text bytes.now))) }
 {
     out.push_str("'")?;
     quoted(out, Quotes::Text, bytes.as_str())?;
@@ -27,7 +28,7 @@ fn text(out: &mut String, bytes: &HogText) -> Result<(), AllocError>
 #[cycle(printer)]
 #[tactic(auto, using(hog_tree::proofs::Rows::array_is, hog_tree::proofs::Rows::call_is, hog_tree::proofs::Rows::template_is))]
 fn expr(out: &mut String, e: &Expr) -> Result<(), AllocError>
-    ensures { OnOk result (string_bytes out.new ≡ string_bytes out.old ++ expression (exp_of e.now)) }
+    ensures { OnOk result (Adds out.old out.new (expression (exp_of e.now))) }
 {
     match e {
         Expr::Int(n) => number(out, *n),
@@ -71,8 +72,8 @@ fn expr(out: &mut String, e: &Expr) -> Result<(), AllocError>
 // Adds a text and an operand.
 #[cycle(printer)]
 fn prefix(out: &mut String, before: &str, e: &Expr) -> Result<(), AllocError>
-    ensures { OnOk result (string_bytes out.new ≡ string_bytes out.old
-        ++ (before.now ++ held (is_compound (form_of (exp_of e.now))) (expression (exp_of e.now)))) }
+    ensures { OnOk result (Adds out.old out.new
+        (before.now ++ held (is_compound (form_of (exp_of e.now))) (expression (exp_of e.now)))) }
 {
     out.push_str(before)?;
     enclosed(out, is_compound(form_of(e)), e)
@@ -81,8 +82,9 @@ fn prefix(out: &mut String, before: &str, e: &Expr) -> Result<(), AllocError>
 // Adds a base, a mark and the name of a property.
 #[cycle(printer)]
 fn property(out: &mut String, e: &Expr, mark: &str, name: &HogText) -> Result<(), AllocError>
-    ensures { OnOk result (string_bytes out.new ≡ string_bytes out.old
-        ++ (held (is_held_base (form_of (exp_of e.now))) (expression (exp_of e.now)) ++ (mark.now ++ name.now))) }
+    ensures { OnOk result (Adds out.old out.new
+        (held (is_held_base (form_of (exp_of e.now))) (expression (exp_of e.now))
+        ++ (mark.now ++ name.now))) }
 {
     enclosed(out, is_held_base(form_of(e)), e)?;
     out.push_str(mark)?;
@@ -92,8 +94,8 @@ fn property(out: &mut String, e: &Expr, mark: &str, name: &HogText) -> Result<()
 // Adds an expression between two texts.
 #[cycle(printer)]
 fn around(out: &mut String, before: &str, e: &Expr, after: &str) -> Result<(), AllocError>
-    ensures { OnOk result (string_bytes out.new ≡
-        string_bytes out.old ++ (before.now ++ (expression (exp_of e.now) ++ after.now))) }
+    ensures { OnOk result (Adds out.old out.new
+        (before.now ++ (expression (exp_of e.now) ++ after.now))) }
 {
     out.push_str(before)?;
     expr(out, e)?;
@@ -103,8 +105,7 @@ fn around(out: &mut String, before: &str, e: &Expr, after: &str) -> Result<(), A
 // Adds an expression, in parentheses or without.
 #[cycle(printer)]
 fn enclosed(out: &mut String, parentheses: bool, e: &Expr) -> Result<(), AllocError>
-    ensures { OnOk result (string_bytes out.new ≡
-        string_bytes out.old ++ held parentheses (expression (exp_of e.now))) }
+    ensures { OnOk result (Adds out.old out.new (held parentheses (expression (exp_of e.now)))) }
 {
     if parentheses {
         around(out, "(", e, ")")
@@ -116,8 +117,8 @@ fn enclosed(out: &mut String, parentheses: bool, e: &Expr) -> Result<(), AllocEr
 // Adds expressions with commas between them, between two texts.
 #[cycle(printer)]
 fn exprs(out: &mut String, before: &str, list: &Exprs, after: &str) -> Result<(), AllocError>
-    ensures { OnOk result (string_bytes out.new ≡ string_bytes out.old
-        ++ (before.now ++ (items (exps_from list.now.list.items) ++ after.now))) }
+    ensures { OnOk result (Adds out.old out.new
+        (before.now ++ (items (exps_from list.now.list.items) ++ after.now))) }
 {
     out.push_str(before)?;
     let mut comma = "";
@@ -131,7 +132,7 @@ fn exprs(out: &mut String, before: &str, list: &Exprs, after: &str) -> Result<()
 // Adds characters of a template, or an expression in a hole.
 #[cycle(printer)]
 fn part(out: &mut String, p: &Part) -> Result<(), AllocError>
-    ensures { OnOk result (string_bytes out.new ≡ string_bytes out.old ++ parts (part_of p.now NoPart)) }
+    ensures { OnOk result (Adds out.old out.new (parts (part_of p.now NoPart))) }
 {
     match p {
         Part::Text(bytes) => quoted(out, Quotes::Template, bytes.as_str()),
@@ -142,7 +143,8 @@ fn part(out: &mut String, p: &Part) -> Result<(), AllocError>
 // Adds a template.
 #[cycle(printer)]
 fn template(out: &mut String, list: &Parts) -> Result<(), AllocError>
-    ensures { OnOk result (string_bytes out.new ≡ string_bytes out.old ++ expression (Template (parts_from list.now.list.items))) }
+    ensures { OnOk result (Adds out.old out.new
+        (expression (Template (parts_from list.now.list.items)))) }
 {
     out.push_str("f'")?;
     for p in &list.list {
@@ -154,8 +156,9 @@ fn template(out: &mut String, list: &Parts) -> Result<(), AllocError>
 // Adds a text, a key and its value.
 #[cycle(printer)]
 fn dict_item(out: &mut String, before: &str, item: &DictItem) -> Result<(), AllocError>
-    ensures { OnOk result (string_bytes out.new ≡ string_bytes out.old ++ (before.now
-        ++ (expression (exp_of item.now.key) ++ (codes ": " ++ expression (exp_of item.now.value))))) }
+    ensures { OnOk result (Adds out.old out.new
+        (before.now ++ (expression (exp_of item.now.key)
+        ++ (codes ": " ++ expression (exp_of item.now.value))))) }
 {
     around(out, before, &item.key, ": ")?;
     expr(out, &item.value)
@@ -164,7 +167,7 @@ fn dict_item(out: &mut String, before: &str, item: &DictItem) -> Result<(), Allo
 // Adds a dictionary.
 #[cycle(printer)]
 fn dict(out: &mut String, list: &DictItems) -> Result<(), AllocError>
-    ensures { OnOk result (string_bytes out.new ≡ string_bytes out.old ++ expression (Dict (dict_of list.now))) }
+    ensures { OnOk result (Adds out.old out.new (expression (Dict (dict_of list.now)))) }
 {
     out.push_str("{")?;
     let mut comma = "";
@@ -179,7 +182,7 @@ fn dict(out: &mut String, list: &DictItems) -> Result<(), AllocError>
 #[cycle(printer)]
 #[tactic(auto, using(hog_tree::proofs::Rows::body_is))]
 fn arrow_body(out: &mut String, arrow: &ArrowBody) -> Result<(), AllocError>
-    ensures { OnOk result (string_bytes out.new ≡ string_bytes out.old ++ body (body_of arrow.now)) }
+    ensures { OnOk result (Adds out.old out.new (body (body_of arrow.now))) }
 {
     match arrow {
         ArrowBody::One(e) => enclosed(out, is_held_body(form_of(e)), e),
@@ -187,10 +190,10 @@ fn arrow_body(out: &mut String, arrow: &ArrowBody) -> Result<(), AllocError>
     }
 }
 
-// Adds a declaration, an assignment or an expression, without a `;`; any other statement adds nothing.
+// Adds a declaration, an assignment or an expression, without a `;`. Any other statement adds nothing.
 #[cycle(printer)]
 fn simple(out: &mut String, s: &Stmt) -> Result<(), AllocError>
-    ensures { OnOk result (string_bytes out.new ≡ string_bytes out.old ++ clause (stm_of s.now)) }
+    ensures { OnOk result (Adds out.old out.new (clause (stm_of s.now))) }
 {
     match s {
         Stmt::Let(name, initial) => {
@@ -221,7 +224,7 @@ fn simple(out: &mut String, s: &Stmt) -> Result<(), AllocError>
 // Adds a start or a step, if there is one.
 #[cycle(printer)]
 fn optional(out: &mut String, s: &Option<Box<Stmt>>) -> Result<(), AllocError>
-    ensures { OnOk result (string_bytes out.new ≡ string_bytes out.old ++ step (option_stm_from s.now)) }
+    ensures { OnOk result (Adds out.old out.new (step (option_stm_from s.now))) }
 {
     match s {
         Some(s) => simple(out, s),
@@ -232,7 +235,7 @@ fn optional(out: &mut String, s: &Option<Box<Stmt>>) -> Result<(), AllocError>
 // Adds a condition, if there is one.
 #[cycle(printer)]
 fn condition(out: &mut String, e: &Option<Expr>) -> Result<(), AllocError>
-    ensures { OnOk result (string_bytes out.new ≡ string_bytes out.old ++ condition (option_exp_from e.now)) }
+    ensures { OnOk result (Adds out.old out.new (condition (option_exp_from e.now))) }
 {
     match e {
         Some(e) => expr(out, e),
@@ -244,7 +247,7 @@ fn condition(out: &mut String, e: &Option<Expr>) -> Result<(), AllocError>
 #[cycle(printer)]
 #[tactic(auto, using(hog_tree::proofs::Rows::block_is))]
 fn stmt(out: &mut String, at: Layout, s: &Stmt) -> Result<(), AllocError>
-    ensures { OnOk result (string_bytes out.new ≡ string_bytes out.old ++ statement at (stm_of s.now)) }
+    ensures { OnOk result (Adds out.old out.new (statement at (stm_of s.now))) }
 {
     match s {
         Stmt::Let(_, _) | Stmt::Assign(_, _) | Stmt::Do(_) => {
@@ -308,8 +311,8 @@ fn stmt(out: &mut String, at: Layout, s: &Stmt) -> Result<(), AllocError>
 // Adds statements in braces.
 #[cycle(printer)]
 fn block(out: &mut String, at: Layout, list: &Stmts) -> Result<(), AllocError>
-    ensures { OnOk result (string_bytes out.new ≡
-        string_bytes out.old ++ braced at (lines (within at) (stms_from list.now.list.items))) }
+    ensures { OnOk result (Adds out.old out.new
+        (braced at (lines (within at) (stms_from list.now.list.items)))) }
 {
     let inner = within(at)?;
     out.push_str("{")?;
@@ -321,7 +324,7 @@ fn block(out: &mut String, at: Layout, list: &Stmts) -> Result<(), AllocError>
     Ok(out.push_str("}")?)
 }
 
-/// The printed text of a tree: one statement a line, with four spaces for each block that it stands in.
+/// The printed text of a tree: one statement a line, with four spaces for each block round it.
 pub fn print_tree(alloc: Global, tree: &Tree) -> Result<HogText, AllocError>
     ensures text { IfOk result (λ t. t ≡ printed (tree_of tree.now)) }
 {

@@ -1,4 +1,4 @@
-//! A tree that is built by hand, and its text. Programs are printed and read back by the crates above.
+//! A tree that is built by hand, and its text.
 
 use crate::print_tree;
 use hog_tree::tree::{DictItems, Expr, Stmt, Stmts, Tree};

@@ -1,9 +1,10 @@
 //! Numbers, names and operators.
 
-ghost use Rattle.std.specs.Prelude.{◌≡◌, ◌++◌, OnOk, string_bytes};
+ghost use Rattle.std.specs.Prelude.{◌≡◌, OnOk};
 ghost use Rattle.std.specs.Fmt.{signed_decimal};
 ghost use Rattle.hog_tree.specs.View.{words_of, option_word_of};
 ghost use Rattle.hog_printer.specs.Print.{operator, names, bound};
+ghost use Rattle.hog_printer.specs.View.{Adds};
 
 use hog_tree::tree::{BinaryOp, Named, Names};
 use hog_value::HogText;
@@ -34,7 +35,7 @@ pub fn operator(op: BinaryOp) -> &'static str
 
 /// Adds a whole number.
 pub fn number(out: &mut String, n: i64) -> Result<(), AllocError>
-    ensures { OnOk result (string_bytes out.new ≡ string_bytes out.old ++ signed_decimal n) }
+    ensures { OnOk result (Adds out.old out.new (signed_decimal n)) }
 {
     let mut buffer = Buffer::new();
     out.push_str(buffer.format(n))?;
@@ -43,7 +44,7 @@ pub fn number(out: &mut String, n: i64) -> Result<(), AllocError>
 
 /// Adds a word.
 pub fn word(out: &mut String, text: &HogText) -> Result<(), AllocError>
-    ensures { OnOk result (string_bytes out.new ≡ string_bytes out.old ++ text.now) }
+    ensures { OnOk result (Adds out.old out.new text.now) }
 {
     out.push_str(text.as_str())?;
     Ok(())
@@ -51,7 +52,7 @@ pub fn word(out: &mut String, text: &HogText) -> Result<(), AllocError>
 
 /// Adds names with commas between them.
 pub fn names(out: &mut String, list: &Names) -> Result<(), AllocError>
-    ensures { OnOk result (string_bytes out.new ≡ string_bytes out.old ++ names (words_of list.now)) }
+    ensures { OnOk result (Adds out.old out.new (names (words_of list.now))) }
 {
     let mut comma = "";
     for name in list.items() {
@@ -64,7 +65,7 @@ pub fn names(out: &mut String, list: &Names) -> Result<(), AllocError>
 
 /// Adds the names of a `for .. in`.
 pub fn bound(out: &mut String, key: &Option<Named>, value: &Named) -> Result<(), AllocError>
-    ensures { OnOk result (string_bytes out.new ≡ string_bytes out.old ++ bound (option_word_of key.now) value.now.word) }
+    ensures { OnOk result (Adds out.old out.new (bound (option_word_of key.now) value.now.word)) }
 {
     if let Some(key) = key {
         word(out, &key.word)?;

@@ -1,9 +1,8 @@
 -- The texts of the prelude's functions are those of its trees.
-use Rattle.std.proofs.Common.{◌≡◌, ℕ, suc, pos, ◌*◌, ◌<◌, ◌≤◌, List, [], ◌∷◌, length, codes, refl, sym, ap, ◌∙◌, subst, arith}
+use Rattle.std.proofs.Common.{◌≡◌, ℕ, suc, pos, ◌*◌, ◌<◌, ◌≤◌, List, [], ◌∷◌, length, codes, refl, sym, subst, arith}
 use Rattle.std.specs.Fmt.{digits}
 use Rattle.hog_tree.specs.declared.tree.BinaryOp.TheVariants.{Plus}
 use Rattle.hog_tree.specs.Plain.{Stm, Stms, Done, Then, Name, Call, Binary, Int, MoreExp, NoExp}
-use Rattle.hog_grammar.specs.declared.token.Token.{Token}
 use Rattle.hog_grammar.specs.Bytes.{class, Letter, is_word, AllOf}
 use Rattle.hog_grammar.specs.Spelling.{Spells}
 use Rattle.hog_grammar.specs.Terminal.{Terminal, terminals, word}
@@ -82,9 +81,14 @@ is_program : (ss : Stms) → FitStms ss → suc (2 * length (stms_tokens ss)) < 
 is_program ss fit few short =
     let has = has_tokens (printed ss) (stms_tokens ss) (program_prints ss fit) in
     let spelled = program_spelled ss fit in
-    record { short = short; list = has.list; cut = has.tokens; height = spelled.0;
+    record {
+      short = short;
+      list = has.list;
+      cut = has.tokens;
+      height = spelled.0;
       spelled = subst (λ (ts : List Terminal). Spells ss ts spelled.0) (sym has.meaning) spelled.1;
-      low = low_enough ss (stms_tokens ss) spelled.0 spelled.1 few }
+      low = low_enough ss (stms_tokens ss) spelled.0 spelled.1 few;
+    }
 
 next_fits : FitExp (Binary Plus (Call (Name (codes "length")) (MoreExp (Name (codes "r")) NoExp)) (Int (pos 1)))
 next_fits = ((length_free, (r_free, tt)), omega arith)
@@ -93,16 +97,34 @@ call_fits : FitExp (Call (Name (codes "f")) (MoreExp (Name (codes "x")) NoExp))
 call_fits = (f_free, (x_free, tt))
 
 map_fits : FitStms (alone array_map)
-map_fits = ((map_free, (f_free, (a_free, tt)),
-    ((r_free, tt), ((tt, x_free, a_free, ((tt, (r_free, next_fits), call_fits), tt)), (r_free, tt)))), tt)
+map_fits = (
+  (
+    map_free,
+    (f_free, (a_free, tt)),
+    ((r_free, tt), ((tt, x_free, a_free, ((tt, (r_free, next_fits), call_fits), tt)), (r_free, tt))),
+  ),
+  tt,
+)
 
 filter_fits : FitStms (alone array_filter)
-filter_fits = ((filter_free, (f_free, (a_free, tt)),
-    ((r_free, tt), ((tt, x_free, a_free, ((call_fits, ((tt, (r_free, next_fits), x_free), tt), tt), tt)), (r_free, tt)))), tt)
+filter_fits = (
+  (
+    filter_free,
+    (f_free, (a_free, tt)),
+    ((r_free, tt), ((tt, x_free, a_free, ((call_fits, ((tt, (r_free, next_fits), x_free), tt), tt), tt)), (r_free, tt))),
+  ),
+  tt,
+)
 
 exists_fits : FitStms (alone array_exists)
-exists_fits = ((exists_free, (f_free, (a_free, tt)),
-    ((tt, x_free, a_free, ((call_fits, (tt, tt), tt), tt)), (tt, tt))), tt)
+exists_fits = (
+  (
+    exists_free,
+    (f_free, (a_free, tt)),
+    ((tt, x_free, a_free, ((call_fits, (tt, tt), tt), tt)), (tt, tt)),
+  ),
+  tt,
+)
 
 map_printed : printed (alone array_map) ≡ map_text
 unfolding digits

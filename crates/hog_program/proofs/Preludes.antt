@@ -1,11 +1,10 @@
 -- The prelude's functions, placed and read.
-use Rattle.std.proofs.Common.{◌≡◌, ◌≢◌, ℕ, zero, suc, ◌<◌, List, [], ◌∷◌, ◌++◌, length, slice_index_or, Bool, true, false, ◌||◌, if◌then◌else◌, IfOk, Result, Ok, Err, refl, sym, subst, ap, ◌∙◌, arith}
+use Rattle.std.proofs.Common.{◌≡◌, ◌≢◌, ℕ, ◌<◌, List, [], ◌∷◌, ◌++◌, length, slice_index_or, Bool, true, false, ◌||◌, if◌then◌else◌, IfOk, Result, Ok, Err, refl, subst, ◌∙◌, arith}
 use Rattle.std.specs.Bool.{◌==◌}
 use Rattle.hog_tree.specs.declared.tree.Stmt.{Stmt}
 use Rattle.hog_tree.specs.Plain.{Stm, Stms, Done, Then, Block}
 use Rattle.hog_tree.specs.View.{stm_of, stms_from}
 use Rattle.hog_tree.proofs.Rows.{add_stm, stms_from-snoc}
-use Rattle.hog_grammar.specs.Pieces.{Lexed}
 use Rattle.hog_program.specs.Placing.{added}
 use Rattle.hog_program.specs.Prelude.{array_map, array_filter, array_exists}
 
@@ -27,7 +26,7 @@ abbrev pub whole : Bool → Bool → Bool → Stms → Stms
 whole maps filters tests program =
     if maps || (filters || (tests || false))
     then (if maps then Then array_map (if filters then Then array_filter (if tests then Then array_exists (Then (Block program) Done) else Then (Block program) Done) else (if tests then Then array_exists (Then (Block program) Done) else Then (Block program) Done))
-        else (if filters then Then array_filter (if tests then Then array_exists (Then (Block program) Done) else Then (Block program) Done) else (if tests then Then array_exists (Then (Block program) Done) else Then (Block program) Done)))
+    else (if filters then Then array_filter (if tests then Then array_exists (Then (Block program) Done) else Then (Block program) Done) else (if tests then Then array_exists (Then (Block program) Done) else Then (Block program) Done)))
     else program
 
 abbrev pub functions : Bool → Bool → Bool → Stms

@@ -1,5 +1,5 @@
 -- Whole programs of sources, and faults of their names.
-use Rattle.std.proofs.Common.{◌≡◌, ◌≢◌, ℕ, ◌≤◌, List, length, Result, Ok, Err, refl, sym, ap, ◌∙◌, subst}
+use Rattle.std.proofs.Common.{◌≡◌, ℕ, ◌≤◌, List, length, Result, Ok, Err, refl, sym, ap, ◌∙◌, subst}
 use Rattle.hog_tree.specs.Plain.{Stms}
 use Rattle.hog_tree.specs.declared.tree.Named.{Named}
 use Rattle.hog_grammar.specs.declared.token.Token.{Token}
@@ -10,7 +10,7 @@ use Rattle.hog_grammar.specs.Terminal.{terminals}
 use Rattle.hog_scope.specs.declared.item.Item.{Item}
 use Rattle.hog_scope.specs.declared.stop.ScopeStop.{ScopeStop}
 use Rattle.hog_scope.specs.Scopes.{Cause, AlreadyDeclared, AssignsUnknown, UnknownFunction, WrongCount, Fault, items_of}
-use Rattle.hog_scope.specs.Stops.{located, stop_at, place_of}
+use Rattle.hog_scope.specs.Stops.{located, stop_at}
 use Rattle.hog_program.specs.declared.stop.BuildStop.{BuildStop}
 use Rattle.hog_program.specs.declared.stop.BuildStop.TheVariants as stop
 use Rattle.hog_program.specs.Stops.{of_scope}

@@ -1,5 +1,5 @@
 -- What a source means: its program with what it mentions of the prelude, the code of that, and why there is none.
-use Rattle.std.specs.Prelude.{◌≡◌, ℕ, List, Result, Ok, Err}
+use Rattle.std.specs.Prelude.{◌≡◌, ℕ, List, Ok, Err}
 use Rattle.hog_tree.specs.Plain.{Stms}
 use Rattle.hog_scope.specs.declared.item.Item.{Item}
 use Rattle.hog_scope.specs.Scopes.{Cause, AlreadyDeclared, AssignsUnknown, UnknownFunction, WrongCount, Fault, items_of}

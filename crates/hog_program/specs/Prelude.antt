@@ -1,8 +1,8 @@
 -- The prelude: functions in Hog that a program may use, and where they are placed.
-use Rattle.std.specs.Prelude.{ℕ, pos, List, [], ◌∷◌, Bool, true, false, Option, Some, None, ◌&&◌, codes, bytes_eq, slice_range, if◌then◌else◌}
+use Rattle.std.specs.Prelude.{pos, List, [], ◌∷◌, Bool, true, false, None, ◌&&◌, codes, bytes_eq, slice_range, if◌then◌else◌}
 use Rattle.std.specs.List.{list_any}
-use Rattle.hog_tree.specs.declared.tree.BinaryOp.TheVariants.{Plus, Equal}
-use Rattle.hog_tree.specs.Plain.{Word, Exp, Int, Truth, Name, Array, Binary, Index, Call, Exps, NoExp, MoreExp, Stm, Let, Assign, Return, If, ForIn, Fun, Block, Stms, Done, Then, SomeExp, NoneStms}
+use Rattle.hog_tree.specs.declared.tree.BinaryOp.TheVariants.{Plus}
+use Rattle.hog_tree.specs.Plain.{Word, Exp, Int, Truth, Name, Array, Binary, Index, Call, NoExp, MoreExp, Stm, Let, Assign, Return, If, ForIn, Fun, Block, Stms, Done, Then, SomeExp, NoneStms}
 use Rattle.hog_grammar.specs.declared.token.Token.{Token}
 use Rattle.hog_grammar.specs.declared.token.TokenKind.{TokenKind}
 use Rattle.hog_grammar.specs.declared.token.TokenKind.TheVariants as k
@@ -41,7 +41,7 @@ array_filter = takes_function (codes "arrayFilter")
 abbrev pub array_exists : Stm
 array_exists = takes_function (codes "arrayExists")
     (Then (ForIn None (codes "x") (Name (codes "a"))
-        (Then (If (calls (codes "f") (codes "x")) (Then (Return (SomeExp (Truth true))) Done) NoneStms) Done))
+    (Then (If (calls (codes "f") (codes "x")) (Then (Return (SomeExp (Truth true))) Done) NoneStms) Done))
     (Then (Return (SomeExp (Truth false))) Done))
 
 -- the functions with their names, in the order in which they are placed

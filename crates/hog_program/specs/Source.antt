@@ -1,5 +1,5 @@
 -- Which texts are programs, and why a text is none.
-use Rattle.std.specs.Prelude.{◌≡◌, ℕ, ◌<◌, ◌≤◌, List, length}
+use Rattle.std.specs.Prelude.{ℕ, ◌<◌, ◌≤◌, List, length}
 use Rattle.std.specs.Str.{IsUtf8, IsValidUpTo}
 use Rattle.hog_tree.specs.Plain.{Stms}
 use Rattle.hog_grammar.specs.declared.token.Token.{Token}

@@ -15,13 +15,16 @@ use hog_tree::tree::{Stmt, Stmts, Tree};
 use std::alloc::{AllocError, Global};
 
 /// The text of `arrayMap`.
-const ARRAY_MAP: &[u8] = b"fun arrayMap(f, a) {\n    let r := [];\n    for (let x in a) {\n        r[length(r) + 1] := f(x);\n    }\n    return r;\n}\n";
+const ARRAY_MAP: &[u8] =
+    b"fun arrayMap(f, a) {\n    let r := [];\n    for (let x in a) {\n        r[length(r) + 1] := f(x);\n    }\n    return r;\n}\n";
 
 /// The text of `arrayFilter`.
-const ARRAY_FILTER: &[u8] = b"fun arrayFilter(f, a) {\n    let r := [];\n    for (let x in a) {\n        if (f(x)) {\n            r[length(r) + 1] := x;\n        }\n    }\n    return r;\n}\n";
+const ARRAY_FILTER: &[u8] =
+    b"fun arrayFilter(f, a) {\n    let r := [];\n    for (let x in a) {\n        if (f(x)) {\n            r[length(r) + 1] := x;\n        }\n    }\n    return r;\n}\n";
 
 /// The text of `arrayExists`.
-const ARRAY_EXISTS: &[u8] = b"fun arrayExists(f, a) {\n    for (let x in a) {\n        if (f(x)) {\n            return true;\n        }\n    }\n    return false;\n}\n";
+const ARRAY_EXISTS: &[u8] =
+    b"fun arrayExists(f, a) {\n    for (let x in a) {\n        if (f(x)) {\n            return true;\n        }\n    }\n    return false;\n}\n";
 
 /// The program with what its text mentions of the prelude.
 pub fn with_prelude(alloc: Global, tokens: &Tokens, program: Tree) -> Result<Tree, AllocError>

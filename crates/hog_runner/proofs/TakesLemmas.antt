@@ -1,8 +1,8 @@
 -- What two calls in a row take.
-use Rattle.std.proofs.Common.{◌≡◌, ℕ, ◌+◌, ◌-◌, ◌≤◌, ◌<◌, List, [], ◌++◌, length, take, drop, Option, Some, refl, sym, ◌∙◌, ap, subst, append_assoc, length-append, arith}
+use Rattle.std.proofs.Common.{◌≡◌, ℕ, ◌+◌, ◌≤◌, ◌<◌, List, [], ◌++◌, length, take, drop, Option, Some, refl, sym, ◌∙◌, ap, subst, append_assoc, length-append, arith}
 use Rattle.std.proofs.lemmas.List.{append-nil, take-append-drop}
 use Rattle.std.proofs.Math.Seq.{drop-append_seam, drop-append-add}
-use Rattle.hog_runner.specs.Takes.{TakesAtMost, AreMoved, Moves}
+use Rattle.hog_runner.specs.Takes.{TakesAtMost, Moves}
 
 -- a call that takes nothing
 pub Moves-none : {a b : Option (List ℕ)} (text : List ℕ) → b ≡ a → Moves a b text text

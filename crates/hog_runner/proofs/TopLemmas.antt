@@ -1,5 +1,5 @@
 -- What a command gives for a program, and why it refuses its input, exclude one another.
-use Rattle.std.proofs.Common.{◌≡◌, ◌⊎◌, inl, inr, ℕ, ◌<◌, ◌≤◌, List, length, Option, Some, refl, sym, subst, ◌∙◌, arith}
+use Rattle.std.proofs.Common.{◌≡◌, ◌⊎◌, inl, inr, ℕ, ◌≤◌, List, length, Option, Some, subst, arith}
 use Rattle.hog_tree.specs.Plain.{Stms}
 use Rattle.hog_program.specs.Build.{IsBuilt, IsUnbuilt}
 use Rattle.hog_program.specs.Source.{IsProgram, IsNone}

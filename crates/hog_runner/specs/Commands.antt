@@ -1,5 +1,5 @@
 -- The commands: the words that ask for them, what they write, and why they refuse their input.
-use Rattle.std.specs.Prelude.{◌≡◌, ℕ, ◌<◌, ◌≤◌, List, [], ◌∷◌, ◌++◌, length, codes, bytes_eq, Option, Some, None, if◌then◌else◌}
+use Rattle.std.specs.Prelude.{◌≡◌, ℕ, ◌<◌, ◌≤◌, List, [], ◌∷◌, length, codes, bytes_eq, Option, Some, None, if◌then◌else◌}
 use Rattle.hog_tree.specs.Plain.{Stms}
 use Rattle.hog_program.specs.Build.{IsBuilt, IsUnbuilt}
 use Rattle.hog_program.specs.Source.{IsProgram, IsNone}

@@ -196,8 +196,14 @@ fn prints_trees(rt: HostRuntime) -> Result<(), Fail> {
             "if (a) {\n    if (b) {\n        c;\n    } else {\n        d;\n    }\n}\n",
         ),
         ("for(({});;){}", "for (({}); ; ) {\n}\n"),
-        ("f'a{1+2}\\{'; ({}); 1 .w", "f'a{1 + 2}\\{';\n({});\n(1).w;\n"),
-        ("let f := x -> { return x }", "let f := (x) -> { return x; };\n"),
+        (
+            "f'a{1+2}\\{'; ({}); 1 .w",
+            "f'a{1 + 2}\\{';\n({});\n(1).w;\n",
+        ),
+        (
+            "let f := x -> { return x }",
+            "let f := (x) -> { return x; };\n",
+        ),
     ];
     for (source, printed) in rows {
         let (status, sink) = answer(rt.alloc(), "fmt", source.as_bytes())?;

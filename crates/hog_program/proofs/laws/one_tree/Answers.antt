@@ -1,4 +1,4 @@
-use Rattle.std.proofs.Common.{◌≡◌, subst}
+use Rattle.std.proofs.Common.{subst}
 use Rattle.hog_grammar.specs.Spelling.{Spells}
 use Rattle.hog_grammar.specs.Terminal.{terminals}
 use Rattle.hog_program.proofs.laws.one_tree.Goals as goal

@@ -1,4 +1,4 @@
-use Rattle.std.proofs.Common.{◌≡◌, ℕ, ◌<◌, ◌≤◌, List, subst, arith}
+use Rattle.std.proofs.Common.{ℕ, ◌<◌, List, subst, arith}
 use Rattle.hog_tree.specs.Plain.{Stms}
 use Rattle.hog_grammar.specs.declared.token.Fault.TheVariants as fault
 use Rattle.hog_grammar.specs.Laws.{OneList, NotBoth}

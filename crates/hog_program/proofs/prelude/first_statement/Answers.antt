@@ -1,4 +1,4 @@
-use Rattle.std.proofs.Common.{◌≡◌, Err, refl, ap, ◌∙◌, arith}
+use Rattle.std.proofs.Common.{◌≡◌, refl, ap, ◌∙◌, arith}
 use Rattle.hog_tree.specs.Plain.{Then, Done}
 use Rattle.hog_tree.specs.View.{stm_of, tree_of}
 use Rattle.hog_program.proofs.Preludes.{is_there, is_first}

@@ -1,5 +1,4 @@
-use Rattle.std.proofs.Common.{◌≡◌, ℕ, List, drop}
-use Rattle.hog_grammar.specs.Pieces.{Lexed}
+use Rattle.std.proofs.Common.{◌≡◌, drop}
 use Rattle.hog_program.specs.Prelude.{mentions}
 use Rattle.hog_program.proofs.prelude.mentions.Given as goal
 

@@ -1,9 +1,9 @@
-use Rattle.std.proofs.Common.{◌≡◌, ◌++◌, ◌∷◌, [], codes, sym, ap, ◌∙◌, arith}
+use Rattle.std.proofs.Common.{◌≡◌, codes, ap, ◌∙◌, arith}
 use Rattle.hog_tree.specs.Plain.{Done, Block}
-use Rattle.hog_tree.specs.View.{stm_of, stms_from, tree_of}
+use Rattle.hog_tree.specs.View.{stms_from, tree_of}
 use Rattle.hog_tree.proofs.Rows.{add_stm, block_is}
 use Rattle.hog_program.specs.Placing.{added}
-use Rattle.hog_program.specs.Prelude.{array_map, array_filter, array_exists, mentions, with_prelude}
+use Rattle.hog_program.specs.Prelude.{array_map, array_filter, array_exists, mentions}
 use Rattle.hog_program.proofs.Preludes.{functions, some_placed, some_statement, one_behind, not_empty}
 use Rattle.hog_program.proofs.prelude.with_prelude.Goals as goal
 

@@ -1,4 +1,4 @@
-use Rattle.std.proofs.Common.{◌≡◌, ◌≢◌, ℕ, ◌+◌, ◌*◌, ◌≤◌, length, Err, sym, ap, ◌∙◌, subst, arith}
+use Rattle.std.proofs.Common.{◌≤◌, length, ◌∙◌, arith}
 use Rattle.std.proofs.lemmas.Result.{err_from_is_err_and}
 use Rattle.hog_program.specs.Source.{longest}
 use Rattle.hog_program.proofs.Refusals.{lexer_refuses, parser_refuses, tokens_fit, same_err}
@@ -17,7 +17,7 @@ returns-in_err-tree-clause-refused c s same other =
     let short : length c.args.source.now ≤ longest = omega (arith, c.if-source-gt-MOST_BYTES.false) in
     let e = rw c.in_ok-tokens.ensures.text at c.in_err-tree.ensures in
     parser_refuses c.args.source.now c.in_ok-tokens.tokens.list c.in_err-tree.field-0.0 short c.in_ok-tokens.ensures.tokens
-        e.syntax e.nested e.after_forty s (same_err c.from_residual-in_err-tree.result _ _ same p.1 ∙ p.2) other
+    e.syntax e.nested e.after_forty s (same_err c.from_residual-in_err-tree.result _ _ same p.1 ∙ p.2) other
 
 pub returns-clause-count : goal.returns-clause-count
 returns-clause-count c =

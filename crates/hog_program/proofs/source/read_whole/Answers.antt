@@ -1,9 +1,9 @@
-use Rattle.std.proofs.Common.{◌≡◌, ◌≢◌, ◌≤◌, length, Err, refl, sym, ap, ◌∙◌, subst, arith}
+use Rattle.std.proofs.Common.{◌≤◌, length, refl, sym, ap, ◌∙◌, subst, arith}
 use Rattle.std.proofs.lemmas.Result.{err_from_is_err_and}
 use Rattle.hog_tree.specs.View.{tree_of}
 use Rattle.hog_scope.specs.Places.{tree_names}
 use Rattle.hog_scope.specs.Scopes.{items_of}
-use Rattle.hog_program.specs.Build.{IsSource, IsUnbuilt}
+use Rattle.hog_program.specs.Build.{IsUnbuilt}
 use Rattle.hog_program.specs.Source.{longest}
 use Rattle.hog_program.specs.Stops.{of_scope}
 use Rattle.hog_program.proofs.Refusals.{lexer_refuses, parser_refuses, same_err}
@@ -23,7 +23,7 @@ returns-in_err-program-clause-unbuilt c s same other =
     let short : length c.args.source.now ≤ longest = omega (arith, c.if-source-gt-MOST_BYTES.false) in
     let e = rw c.in_ok-tokens.ensures.text at c.in_err-program.ensures in
     none_unbuilt c.args.source.now s (parser_refuses c.args.source.now c.in_ok-tokens.tokens.list c.in_err-program.field-0.0 short c.in_ok-tokens.ensures.tokens
-        e.syntax e.nested e.after_forty s (same_err c.from_residual-in_err-program.result _ _ same p.1 ∙ p.2) other)
+    e.syntax e.nested e.after_forty s (same_err c.from_residual-in_err-program.result _ _ same p.1 ∙ p.2) other)
 
 pub returns-in_err-resolve-clause-unbuilt : goal.returns-in_err-resolve-clause-unbuilt
 returns-in_err-resolve-clause-unbuilt c s same other =
@@ -35,7 +35,7 @@ returns-in_err-resolve-clause-unbuilt c s same other =
     let e = c.in_err-resolve.field-0.0 in
     let found_fault = c.in_err-resolve.ensures.refused e refl (λ om. other (is ∙ ap of_scope om)) in
     subst (IsUnbuilt c.args.source.now) (sym is)
-        (faulty c.args.source.now (tree_of c.in_ok-whole.whole) source (tree_names c.in_ok-whole.whole) (items_of (tree_of c.in_ok-whole.whole)) refl e found_fault)
+    (faulty c.args.source.now (tree_of c.in_ok-whole.whole) source (tree_names c.in_ok-whole.whole) (items_of (tree_of c.in_ok-whole.whole)) refl e found_fault)
 
 pub returns-clause-whole : goal.returns-clause-whole
 returns-clause-whole c =

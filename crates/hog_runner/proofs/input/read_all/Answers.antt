@@ -1,4 +1,4 @@
-use Rattle.std.proofs.Common.{◌+◌, ◌≤◌, ◌-◌, arith, vec_len}
+use Rattle.std.proofs.Common.{◌+◌, ◌-◌, arith, vec_len}
 use Rattle.hog_runner.specs.Commands.{most_bytes}
 use Rattle.hog_runner.proofs.TakesLemmas.{Moves-then, Moves-whole, Moves-ended, Moves-large, TakesAtMost-Moves, TakesAtMost-then}
 use Rattle.hog_runner.proofs.input.read_all.Goals as goal

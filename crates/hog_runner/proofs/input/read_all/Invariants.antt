@@ -1,4 +1,4 @@
-use Rattle.std.proofs.Common.{◌≡◌, ◌+◌, ◌-◌, ◌≤◌, ◌<◌, [], vec_len}
+use Rattle.std.proofs.Common.{◌+◌, ◌-◌, ◌≤◌, ◌<◌, [], vec_len}
 use Rattle.hog_runner.specs.Takes.{Moves}
 use Rattle.hog_runner.specs.Commands.{most_bytes}
 use Rattle.hog_runner.proofs.input.read_all.Given as goal

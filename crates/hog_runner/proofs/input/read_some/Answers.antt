@@ -1,4 +1,4 @@
-use Rattle.std.proofs.Common.{ℕ, List, ◌++◌, drop, Some, ◌∙◌, ap}
+use Rattle.std.proofs.Common.{◌++◌, drop, Some, ◌∙◌, ap}
 use Rattle.hog_runner.proofs.TakesLemmas.{Moves-first}
 use Rattle.hog_runner.proofs.input.read_some.Goals as goal
 

@@ -1,8 +1,7 @@
-use Rattle.std.proofs.Common.{◌≡◌, List, Some, Err, refl, sym, ◌∙◌, ap, subst, inl, inr, ⊎_elim}
+use Rattle.std.proofs.Common.{Err, refl, sym, ◌∙◌, ap, subst, inl, inr, ⊎_elim}
 use Rattle.hog_tree.specs.View.{tree_of}
 use Rattle.hog_runner.specs.Commands.{Refuses, Outputs, TooLarge, NoProgram, NotTaken, command_of}
 use Rattle.hog_runner.specs.Writes.{Refused, Done, refusal}
-use Rattle.hog_runner.specs.Causes.{cause_of}
 use Rattle.hog_runner.proofs.TopLemmas.{Laws, same_command, not_both, not_refused, not_lacking, refused_or_none, done_or_none}
 use Rattle.hog_runner.proofs.top.top_program.Goals as goal
 
@@ -20,8 +19,8 @@ returns-in-Ok-clause-refused g c command asked calm xs told cause why =
     let program = c.in-Ok.ensures.program xs told in
     let small = c.in-Ok.ensures.small xs told in
     refused_or_none c.run.result c.run.ensures.statuses
-        (λ zero. let d = c.run.ensures.done zero in not_refused laws c.in-Some.command xs _ program small d.0 cause d.1 why2)
-        (λ four. let d = c.run.ensures.failed_prefix four in not_refused laws c.in-Some.command xs _ program small d.0 cause d.1 why2)
+    (λ zero. let d = c.run.ensures.done zero in not_refused laws c.in-Some.command xs _ program small d.0 cause d.1 why2)
+    (λ four. let d = c.run.ensures.failed_prefix four in not_refused laws c.in-Some.command xs _ program small d.0 cause d.1 why2)
 
 pub returns-in-Ok-clause-write_failed_prefix : goal.returns-in-Ok-clause-write_failed_prefix
 returns-in-Ok-clause-write_failed_prefix g c four xs told =
@@ -33,8 +32,8 @@ pub returns-in-Ok-clause-no_memory_prefix : goal.returns-in-Ok-clause-no_memory_
 returns-in-Ok-clause-no_memory_prefix g c five xs told =
     let here = sym c.command_of.ensures ∙ c.in-Some.is in
     ⊎_elim (λ same. inl same)
-        (λ d. inr (d.0, Done c.in-Some.command here (record { tree = tree_of c.in-Ok.program; program = c.in-Ok.ensures.program xs told; gives = d.1 }) refl, d.2))
-        (c.run.ensures.no_memory_prefix five)
+    (λ d. inr (d.0, Done c.in-Some.command here (record { tree = tree_of c.in-Ok.program; program = c.in-Ok.ensures.program xs told; gives = d.1 }) refl, d.2))
+    (c.run.ensures.no_memory_prefix five)
 
 pub returns-in-Ok-clause-done_output : goal.returns-in-Ok-clause-done_output
 returns-in-Ok-clause-done_output g c zero xs told =
@@ -49,8 +48,8 @@ returns-in-Ok-clause-complete g c command asked calm_source calm_sink xs told ou
     let o2 = subst (λ x. Outputs x xs out) (same_command (command_of c.args.words.now) command c.in-Some.command asked here) o in
     let program = c.in-Ok.ensures.program xs told in
     done_or_none c.run.result c.run.ensures.statuses
-        (λ one. let r = c.run.ensures.refused one in not_lacking laws c.in-Some.command xs _ program out r.0 o2 r.1)
-        (λ four. calm_sink (c.run.ensures.failed four))
+    (λ one. let r = c.run.ensures.refused one in not_lacking laws c.in-Some.command xs _ program out r.0 o2 r.1)
+    (λ four. calm_sink (c.run.ensures.failed four))
 
 pub returns-in-Err-TooLarge-clause-refused_line : goal.returns-in-Err-TooLarge-clause-refused_line
 returns-in-Err-TooLarge-clause-refused_line g c one xs told =

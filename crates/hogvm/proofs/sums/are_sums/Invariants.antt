@@ -1,4 +1,4 @@
-use Rattle.std.proofs.Common.{◌↔◌, ℕ, length}
+use Rattle.std.proofs.Common.{◌↔◌, length}
 use Rattle.hog_tree.specs.View.{exps_from}
 use Rattle.hogvm.specs.Sums.{AreSums}
 use Rattle.hogvm.proofs.sums.are_sums.Given as goal

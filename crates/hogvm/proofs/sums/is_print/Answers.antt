@@ -1,8 +1,7 @@
-use Rattle.std.proofs.Common.{◌↔◌, IsTrue, ◌≡◌, ap, ◌∙◌}
+use Rattle.std.proofs.Common.{◌≡◌, ap, ◌∙◌}
 use Rattle.hog_tree.proofs.Rows.{call_is}
-use Rattle.hog_tree.specs.Plain.{Do, Call}
+use Rattle.hog_tree.specs.Plain.{Call}
 use Rattle.hog_tree.specs.View.{exp_of, exps_from}
-use Rattle.hogvm.specs.Sums.{IsSumStm}
 use Rattle.hogvm.proofs.sums.is_print.Goals as goal
 
 pub returns-in-Call : goal.returns-in-Call

@@ -1,4 +1,4 @@
-use Rattle.std.proofs.Common.{◌↔◌, ℕ, length}
+use Rattle.std.proofs.Common.{◌↔◌, length}
 use Rattle.hog_tree.specs.View.{stms_from, tree_of}
 use Rattle.hogvm.specs.Sums.{IsSums}
 use Rattle.hogvm.proofs.sums.is_sums.Given as goal
