@@ -1,6 +1,6 @@
 -- What contracts of the parser's functions say of their results: each gives what its reading gives. No reader
 -- has to trust this file.
-use Rattle.std.specs.Prelude.{◌≡◌, ◌≤◌, ℕ, nat_le, count_by, List, ◌∷◌, map, length, Bool, true, false, Option, Some, None, Result, Ok, Err}
+use Rattle.std.specs.Prelude.{◌≡◌, ◌≤◌, List, ◌∷◌, map, length, Bool, true, false, Option, Some, None, Result, Ok, Err}
 use Rattle.hog_tree.specs.Plain.{Word, Exp}
 use Rattle.std.specs.Str.{IsUtf8}
 use Rattle.hog_tree.specs.Plain as p
@@ -10,7 +10,6 @@ use Rattle.hog_tree.specs.declared.tree.Exprs.{Exprs}
 use Rattle.hog_tree.specs.declared.tree.DictItem.{DictItem}
 use Rattle.hog_tree.specs.declared.tree.DictItems.{DictItems}
 use Rattle.hog_tree.specs.declared.tree.ArrowBody.TheViews.{out-DictItems}
-use Rattle.hog_grammar.specs.declared.token.Token.{Token}
 use Rattle.hog_grammar.specs.Pieces.{Lexed}
 use Rattle.hog_grammar.specs.Bytes.{value_from, greatest}
 use Rattle.hog_grammar.specs.Terminal.{Terminal, meant, unquoted, word}
