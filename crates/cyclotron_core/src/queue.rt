@@ -14,7 +14,6 @@ ghost use Rattle.cyclotron_core.specs.Refusals.{IsOwner, IsOwnedBy, BeganAt, Run
 
 use crate::put::{put_back, put_beat, put_new, put_reply, put_run, put_sweep, put_take};
 use crate::stop::{EnqueueStop, TakeStop};
-use hog_value::items::Bytes;
 use cyclotron_jobs::course::Course;
 use cyclotron_jobs::entry::Entry;
 use cyclotron_jobs::input::{JobInput, Replies, Reply};
@@ -22,6 +21,7 @@ use cyclotron_jobs::lease::{Advance, Answered, Lease};
 use cyclotron_jobs::refused::{LeaseStop, Refused};
 use cyclotron_jobs::row::{After, JobState, Next, QueueName, Row, copy_asks};
 use cyclotron_jobs::sweeps::Sweeps;
+use hog_value::items::Bytes;
 use hog_value::trace::{Shown, Trace};
 use job_keeper::keeper::Keeper;
 use lock_ids::lock::LockId;

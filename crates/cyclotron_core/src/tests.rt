@@ -2,12 +2,12 @@
 
 use crate::queue::QueueState;
 use crate::stop::{EnqueueStop, TakeStop};
-use hog_value::items::Bytes;
 use cyclotron_jobs::course::Course;
 use cyclotron_jobs::input::{Answers, JobInput, Replies, Reply};
 use cyclotron_jobs::lease::{Advance, Answered};
 use cyclotron_jobs::refused::LeaseStop;
 use cyclotron_jobs::row::{After, JobState, Next, QueueName};
+use hog_value::items::Bytes;
 use hog_value::text::HogText;
 use hog_value::trace::{Request, Shown, Trace};
 use job_keeper::keeper::{Keeper, NoKeeper};

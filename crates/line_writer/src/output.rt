@@ -81,7 +81,11 @@ pub fn write_line<W: Sink>(alloc: Global, sink: &mut W, line: &HogText) -> Resul
 }
 
 /// Writes the lines of a trace.
-pub fn write_trace<W: Sink>(alloc: Global, sink: &mut W, items: &[TraceItem]) -> Result<(), OutputStop>
+pub fn write_trace<W: Sink>(
+    alloc: Global,
+    sink: &mut W,
+    items: &[TraceItem],
+) -> Result<(), OutputStop>
     ensures ok { OnOk result (Adds (W.taken sink.old) (W.taken sink.new) (trace_lines items.now)) }
     ensures prefix { AddsPrefix (W.taken sink.old) (W.taken sink.new) (trace_lines items.now) }
     ensures failed { result ≡ Err OutputStop.Failed
