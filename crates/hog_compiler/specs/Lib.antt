@@ -1,0 +1,5 @@
+pub mod Frees
+pub mod Frames
+pub mod Pieces
+pub mod Code
+pub mod Examples

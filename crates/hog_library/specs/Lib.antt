@@ -1,0 +1,6 @@
+pub mod Texts
+pub mod Given
+pub mod Cells
+pub mod Natives
+pub mod Called
+pub mod Examples
