@@ -10,7 +10,7 @@ use Rattle.hog_ops.specs.Table.{span}
 use Rattle.hog_tree.specs.declared.tree.BinaryOp.{BinaryOp}
 use Rattle.hog_tree.specs.declared.tree.BinaryOp.TheVariants as b
 use Rattle.hog_tree.specs.Plain.{Word}
-use Rattle.hog_compiler.specs.Frees.{is_among}
+use Rattle.hog_captures.specs.Frees.{is_among}
 
 -- one operation
 abbrev pub one : Op → Ops

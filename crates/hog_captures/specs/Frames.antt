@@ -2,7 +2,7 @@
 use Rattle.std.specs.Prelude.{ℕ, zero, suc, List, [], ◌∷◌, ◌++◌, length, Bool, true, false, Option, Some, None, bytes_eq, if◌then◌else◌}
 use Rattle.hog_ops.specs.declared.capture.Capture.{Capture}
 use Rattle.hog_tree.specs.Plain.{Word}
-use Rattle.hog_compiler.specs.Frees.{without, is_among}
+use Rattle.hog_captures.specs.Frees.{without, is_among}
 
 -- the names of the locals, the nearest first, where a hidden one has none, and of the captured variables in order
 pub record Frame : Type 0 where

@@ -1,0 +1,6 @@
+//! How the code of a function finds words: the frame of its locals and captured variables, and the free words of parts of
+//! a program: definitions; what computes them is being built.
+//! Stands on hog_ops and hog_tree.
+//! Above, specs/Frees.antt says which words of a part are free, and Frames.antt what a frame knows and what a function
+//! that is made in it captures.
+#![tactic(auto)]
