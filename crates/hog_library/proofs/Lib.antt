@@ -1,3 +1,13 @@
+pub mod Blanks
+pub mod Pieces
+pub mod Found
+pub mod Keys
+pub mod Together
+pub mod Made
+pub mod Days
+pub mod Prints
+pub mod Parsed
+pub mod Follows
 pub mod Naturality
 pub mod TextNaturality
 pub mod CellNaturality
