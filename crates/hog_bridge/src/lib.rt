@@ -4,3 +4,5 @@
 //! Above, the crate of programs cites them.
 //! specs/ says the laws and the computed examples; proofs/ is by subject.
 #![tactic(auto)]
+
+pub mod examples;

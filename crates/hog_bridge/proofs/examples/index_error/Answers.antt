@@ -1,0 +1,7 @@
+use Rattle.std.proofs.Common.{refl}
+use Rattle.hog_bridge.proofs.Computing.{computing}
+use Rattle.hog_bridge.proofs.examples.index_error.Goals as goal
+
+pub returns : goal.returns
+unfolding computing
+returns c = record { by_meaning = refl; by_course = refl; is_over = tt; goes_on_before = refl }

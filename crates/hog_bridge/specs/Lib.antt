@@ -1,0 +1,2 @@
+pub mod ExamplePrograms
+pub mod Examples
