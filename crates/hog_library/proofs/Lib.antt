@@ -14,3 +14,4 @@ pub mod CellNaturality
 pub mod CalledNaturality
 pub mod CalledGrowing
 pub mod Kept
+pub mod KeptCells

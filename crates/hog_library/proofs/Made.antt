@@ -196,3 +196,29 @@ pub error_same : (r : Result Val Stop) (name a b x y : Val) (h g : HeapOf FunCel
     → Makes (made (error_cell name a b) h m.units) r h g m n → Makes (made (error_cell name x y) h m.units) r h g m n
 error_same r name a b x y h g m n first second made_it =
     subst (λ v. Makes (made (error_cell name x v) h m.units) r h g m n) second (subst (λ v. Makes (made (error_cell name v b) h m.units) r h g m n) first made_it)
+
+-- a call that stops with all as before
+pub makes_back : (o : Outcome FunCell Val) (s : Stop) (h g : HeapOf FunCell) (m n : Spent) → (s ≡ stop.UnitsSpent → o ≡ Spends) → g ≡ h → n ≡ m → IsCovered g n.units → Makes o (Err s) h g m n
+makes_back o s h g m n spent heap meter covered = record {
+  ok = tt;
+  turns_and_depth = subst (only_units m) (sym meter) refl;
+  names = tt;
+  spent = λ q. let same : s ≡ stop.UnitsSpent = cc in spent same;
+  err = heap;
+  err_meter = meter;
+  grows = ([], heap ∙ sym (append-nil h));
+  covered = covered;
+}
+
+-- a call that gives null with all as before
+pub makes_null : (o : Outcome FunCell Val) (h g : HeapOf FunCell) (m n : Spent) → o ≡ Gives Null h m.units → g ≡ h → n ≡ m → IsCovered g n.units → Makes o (Ok Null) h g m n
+makes_null o h g m n is heap meter covered = record {
+  ok = is ∙ ap (λ x. Gives Null x m.units) (sym heap) ∙ ap (λ (x : Spent). Gives Null g x.units) (sym meter);
+  turns_and_depth = subst (only_units m) (sym meter) refl;
+  names = tt;
+  spent = λ q. absurd cc;
+  err = tt;
+  err_meter = tt;
+  grows = ([], heap ∙ sym (append-nil h));
+  covered = covered;
+}

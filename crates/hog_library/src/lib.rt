@@ -18,4 +18,4 @@ mod text_natives;
 mod texts;
 
 pub use call::{CallStop, NativeAnswer, call_native};
-pub use making::make_thrown;
+pub use making::{make_first, make_reply, make_thrown};

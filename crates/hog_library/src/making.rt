@@ -4,8 +4,8 @@ ghost use Rattle.std.specs.Prelude.{◌≡◌, ◌<◌, length, take, All, IfOk,
 ghost use Rattle.hog_value.specs.Values.{NamesBelow};
 ghost use Rattle.hog_value.specs.Cells.{IsCovered, IsClosed, Text};
 ghost use Rattle.hog_value.specs.Operations.{Gives, Spends, made};
-ghost use Rattle.hog_json.specs.Reading.{Grows};
-ghost use Rattle.hog_library.specs.Cells.{texts_made, array_of_texts, error_pairs, error_cell, response_pairs, response_cell, thrown, blocked, kind_name, kind_message};
+ghost use Rattle.hog_json.specs.Reading.{Grows, outcome_and_then, read_cells, kept_value};
+ghost use Rattle.hog_library.specs.Cells.{texts_made, array_of_texts, error_pairs, error_cell, response_pairs, response_cell, response, thrown, blocked, kind_name, kind_message};
 ghost use Rattle.hog_library.specs.Given.{argument};
 ghost use Rattle.hog_library.specs.Natives.{error_called};
 ghost use Rattle.hog_library.specs.Products.{Makes, Tries, ProductNames, product_made};
@@ -13,6 +13,7 @@ ghost use Rattle.hog_library.specs.Products.{Makes, Tries, ProductNames, product
 use crate::given::{argument, units_left};
 use crate::product::Product;
 use crate::texts;
+use hog_json::{JsonStop, json_read};
 use hog_value::{Cell, Heap, HogText, Items, Kind, Meter, Pairs, Stop, Value};
 use indexmap::IndexMap;
 use std::alloc::{AllocError, Global};
@@ -288,5 +289,90 @@ pub(crate) fn make_blocked(alloc: Global, heap: &mut Heap, m: &mut Meter) -> Res
     let cells = heap.len();
     let meter = *m;
     let made = try_blocked(alloc, heap, m);
+    or_undone(made, cells, meter, heap, m)
+}
+
+/// Makes the cells of the value that a kept text is: that of globals, or of a reply's body. A text that is no JSON is null.
+pub(crate) fn make_kept(
+    alloc: Global,
+    text: &HogText,
+    heap: &mut Heap,
+    m: &mut Meter,
+) -> Result<Value, Stop>
+    requires { IsCovered heap.old m.old.units }
+    ensures { Makes (read_cells (kept_value text.now) heap.old m.old.units) result heap.old heap.new m.old m.new }
+{
+    match json_read(alloc, heap, text, m) {
+        Ok(v) => Ok(v),
+        Err(JsonStop::BadJson) => Ok(Value::Null),
+        Err(JsonStop::UnitsSpent) => Err(Stop::UnitsSpent),
+        Err(JsonStop::OutOfMemory) => Err(Stop::OutOfMemory),
+    }
+}
+
+/// Makes what a program sees of a reply, as long as it fits.
+#[tactic(auto, unfolding(crate::specs::Cells::response))]
+fn try_reply(
+    alloc: Global,
+    status: u16,
+    body: &HogText,
+    heap: &mut Heap,
+    m: &mut Meter,
+) -> Result<Value, Stop>
+    requires { IsCovered heap.old m.old.units }
+    ensures { Tries (response status body.now heap.old m.old.units) result heap.old heap.new m.old m.new }
+{
+    let v = make_kept(alloc, body, heap, m)?;
+    make_response(alloc, status, v, heap, m)
+}
+
+/// Makes what a program sees of a reply: the cells of its body, and the response. Where it stops, heap and meter are as
+/// before.
+pub fn make_reply(
+    alloc: Global,
+    status: u16,
+    body: &HogText,
+    heap: &mut Heap,
+    m: &mut Meter,
+) -> Result<Value, Stop>
+    requires { IsCovered heap.old m.old.units }
+    ensures { Makes (response status body.now heap.old m.old.units) result heap.old heap.new m.old m.new }
+{
+    let cells = heap.len();
+    let meter = *m;
+    let made = try_reply(alloc, status, body, heap, m);
+    or_undone(made, cells, meter, heap, m)
+}
+
+/// Makes texts and then the cells of a kept text, as long as they fit.
+fn try_first(
+    alloc: Global,
+    texts: Vec<HogText>,
+    kept: &HogText,
+    heap: &mut Heap,
+    m: &mut Meter,
+) -> Result<Value, Stop>
+    requires { IsCovered heap.old m.old.units }
+    ensures { Tries (outcome_and_then (texts_made texts.items heap.old m.old.units) (λ vs. read_cells (kept_value kept.now))) result heap.old heap.new m.old m.new }
+{
+    make_texts(alloc, texts, heap, m)?;
+    make_kept(alloc, kept, heap, m)
+}
+
+/// Makes texts, and then the cells of the value that a kept text is: the first cells of a run, of its literals and its
+/// globals. Where it stops, heap and meter are as before.
+pub fn make_first(
+    alloc: Global,
+    texts: Vec<HogText>,
+    kept: &HogText,
+    heap: &mut Heap,
+    m: &mut Meter,
+) -> Result<Value, Stop>
+    requires { IsCovered heap.old m.old.units }
+    ensures { Makes (outcome_and_then (texts_made texts.items heap.old m.old.units) (λ vs. read_cells (kept_value kept.now))) result heap.old heap.new m.old m.new }
+{
+    let cells = heap.len();
+    let meter = *m;
+    let made = try_first(alloc, texts, kept, heap, m);
     or_undone(made, cells, meter, heap, m)
 }
