@@ -8,7 +8,9 @@
 mod captured;
 mod declared;
 mod frame;
+mod takes;
 
 pub use captured::Captured;
 pub use declared::declared_by;
 pub use frame::Frame;
+pub use takes::{for_takes, fun_takes, stmts_take};
