@@ -4,7 +4,7 @@ use Rattle.hog_tree.specs.Plain.{Exp}
 use Rattle.hog_grammar.specs.Terminal.{Terminal}
 use Rattle.hog_grammar.specs.Terminal as k
 use Rattle.hog_grammar.specs.Forms.{ends_block, begins_brace, begins_else}
-use Rattle.hog_parser.specs.Marks.{after_close, after_close_bracket, after_open_brace, after_close_brace, after_comma, after_semi, after_arrow, after_else, after_bound, lead, begins_arrow, starts}
+use Rattle.hog_terms.specs.Marks.{after_close, after_close_bracket, after_open_brace, after_close_brace, after_comma, after_semi, after_arrow, after_else, after_bound, lead, begins_arrow, starts}
 use Rattle.hog_parser.specs.Read.{Fault, Got, got, ◌>>=◌, Readers, first, climb, leveled}
 use Rattle.hog_parser.specs.ReadStatements.{readers, begun, plain, start_of, ended}
 

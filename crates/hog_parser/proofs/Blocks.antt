@@ -5,7 +5,7 @@ use Rattle.hog_grammar.specs.Terminal.{Terminal}
 use Rattle.hog_grammar.specs.Terminal as k
 use Rattle.hog_grammar.specs.Forms.{ends_block, begins_else, semis, Braced, Governed}
 use Rattle.hog_grammar.specs.Spelling.{OfStm, OfStms, OnlyOne, OfElse, Declared}
-use Rattle.hog_parser.specs.Marks.{after_semi, after_open_brace}
+use Rattle.hog_terms.specs.Marks.{after_semi, after_open_brace}
 use Rattle.hog_parser.specs.Read.{Got, got, ◌>>=◌, either_way, Read, first, leveled, several, put_stm, braced, closed_brace}
 use Rattle.hog_parser.specs.ReadStatements.{readers, begun, plain, governed, only, otherwise, some_block}
 use Rattle.hog_parser.proofs.Begin.{no_brace_none, no_else_none}

@@ -4,7 +4,7 @@ use Rattle.std.specs.Prelude.{nat_lt}
 use Rattle.std.proofs.lemmas.Bool.Decides.{nat_tests, leb_tells}
 use Rattle.hog_tree.specs.Plain.{Exp}
 use Rattle.hog_grammar.specs.Terminal.{Terminal}
-use Rattle.hog_parser.specs.Marks.{lead}
+use Rattle.hog_terms.specs.Marks.{lead}
 use Rattle.hog_parser.specs.Read.{Fault, TooNested, Got, got, ◌>>=◌, Readers, first, step, climb, leveled}
 use Rattle.hog_parser.specs.ReadStatements.{readers}
 

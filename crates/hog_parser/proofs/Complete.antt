@@ -5,7 +5,7 @@ use Rattle.hog_grammar.specs.Terminal.{Terminal, word}
 use Rattle.hog_grammar.specs.Terminal as k
 use Rattle.hog_grammar.specs.Forms.{Phrase, Listing}
 use Rattle.hog_grammar.specs.Spelling.{level_of, tokens_of, OfBody, OfParts, OnlyOne, items, entries, Spells, OneTree}
-use Rattle.hog_parser.specs.Marks.{after_close, after_close_bracket, after_close_brace, lead}
+use Rattle.hog_terms.specs.Marks.{after_close, after_close_bracket, after_close_brace, lead}
 use Rattle.hog_parser.specs.Read.{Fault, Got, got, listing, entry, parts, body, several}
 use Rattle.hog_parser.specs.ReadStatements.{readers, program, all_read}
 use Rattle.hog_parser.proofs.WordTokens.{Each}

@@ -2,7 +2,7 @@
 use Rattle.std.proofs.Common.{◌≡◌, ℕ, suc, max, false, List, Option, Some, Ok, sym, ap, ◌∙◌}
 use Rattle.hog_tree.specs.Plain.{Word, Exp, Stm, If, For, ForIn, Fun, Try, Stms, OptionExp, NoneExp, SomeExp, OptionStm, NoneStm, SomeStm, OptionStms}
 use Rattle.hog_grammar.specs.Terminal.{Terminal}
-use Rattle.hog_parser.specs.Marks.{after_close, after_semi, after_function, after_catch}
+use Rattle.hog_terms.specs.Marks.{after_close, after_semi, after_function, after_catch}
 use Rattle.hog_parser.specs.Read.{Got, got, ◌>>=◌, wants, Readers, listing, name}
 use Rattle.hog_parser.specs.ReadStatements.{in_parentheses, condition, governed, otherwise, conditional, optional, run, run_through, run_over, over_each, block, function, with_parameters, tried}
 use Rattle.hog_parser.proofs.Sound.{okay}

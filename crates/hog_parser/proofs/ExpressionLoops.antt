@@ -9,9 +9,10 @@ use Rattle.hog_grammar.specs.Terminal.{Terminal}
 use Rattle.hog_grammar.specs.Terminal as k
 use Rattle.hog_parser.specs.declared.found.Stop.{Stop}
 use Rattle.hog_parser.specs.declared.found.Stop.TheVariants as s
-use Rattle.hog_parser.specs.Marks.{lead, after_hole}
+use Rattle.hog_terms.specs.Marks.{lead, after_hole}
 use Rattle.hog_parser.specs.Read.{Fault, Syntax, TooNested, Got, got, ◌>>=◌, wants, Read, Readers, step, climb, parts, put_text, put_hole}
-use Rattle.hog_parser.specs.Gives.{Fails, holed, is_part}
+use Rattle.hog_terms.specs.Listed.{is_part}
+use Rattle.hog_parser.specs.Gives.{Fails, holed}
 use Rattle.hog_parser.proofs.Climb.{climb_stops, climb_full, climb_steps}
 
 -- operators

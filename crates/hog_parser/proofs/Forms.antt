@@ -6,7 +6,7 @@ use Rattle.hog_grammar.specs.Terminal.{Terminal, word}
 use Rattle.hog_grammar.specs.Terminal as k
 use Rattle.hog_grammar.specs.Forms.{Phrase, At, enclosed}
 use Rattle.hog_grammar.specs.Spelling.{level, level_of, tokens_of, Bare, truth}
-use Rattle.hog_parser.specs.Marks.{after_close, lead, starts}
+use Rattle.hog_terms.specs.Marks.{after_close, lead, starts}
 use Rattle.hog_parser.specs.Read.{Syntax, got, ◌>>=◌, wants, either_way, first, step, listing, exps, arrow, short_arrow, grown, closed, joined, indexed, called}
 use Rattle.hog_parser.specs.ReadStatements.{readers}
 use Rattle.hog_parser.proofs.WordTokens.{after_word_reads}

@@ -2,7 +2,7 @@
 use Rattle.std.proofs.Common.{◌≡◌, true, List, [], ◌∷◌, Some, None, refl, ap}
 use Rattle.hog_grammar.specs.Terminal.{Terminal}
 use Rattle.hog_grammar.specs.Terminal as k
-use Rattle.hog_parser.specs.Marks.{Shut, after_open, after_close, after_close_bracket, after_open_brace, after_close_brace, after_comma, after_semi, after_colon, after_assign, after_arrow, after_hole, after_else, lead, starts}
+use Rattle.hog_terms.specs.Marks.{Shut, after_open, after_close, after_close_bracket, after_open_brace, after_close_brace, after_comma, after_semi, after_colon, after_assign, after_arrow, after_hole, after_else, lead, starts}
 use Rattle.hog_parser.proofs.Begin.{starts_no_close, starts_no_close_bracket, starts_no_close_brace}
 
 pub is_open : (ts us : List Terminal) → after_open ts ≡ Some us → ts ≡ k.Open ∷ us

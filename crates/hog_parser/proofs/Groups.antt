@@ -6,7 +6,7 @@ use Rattle.hog_grammar.specs.Terminal.{Terminal}
 use Rattle.hog_grammar.specs.Terminal as k
 use Rattle.hog_grammar.specs.Forms.{Phrase, Leaf, Two, Listing}
 use Rattle.hog_grammar.specs.Spelling.{names, OfParts, Parameters, items, entries}
-use Rattle.hog_parser.specs.Marks.{Shut, after_close, after_close_bracket, after_close_brace, after_hole, after_open_brace, lead, begins_arrow}
+use Rattle.hog_terms.specs.Marks.{Shut, after_close, after_close_bracket, after_close_brace, after_hole, after_open_brace, lead, begins_arrow}
 use Rattle.hog_parser.specs.Read.{Syntax, got, ◌>>=◌, wants, either_way, first, listing, exps, pairs, entry, valued, name, parts, put_text, put_hole, body, braced, block_body, one_body, arrow, short_arrow, arrowed, with_body, grown, closed}
 use Rattle.hog_parser.specs.ReadStatements.{readers}
 use Rattle.hog_parser.proofs.Fronts.{Closes, closes_list}

@@ -6,7 +6,7 @@ use Rattle.hog_tree.specs.Plain.{Exp}
 use Rattle.hog_grammar.specs.Terminal.{Terminal}
 use Rattle.hog_grammar.specs.Terminal as k
 use Rattle.hog_grammar.specs.Spelling.{level_of, tokens_of}
-use Rattle.hog_parser.specs.Marks.{operator, lead}
+use Rattle.hog_terms.specs.Marks.{operator, lead}
 use Rattle.hog_parser.specs.Read.{Readers, step, binary}
 
 pub operator_of : (op : BinaryOp) (ts : List Terminal) → operator (tokens_of op ++ ts) ≡ Some (op, ts)

@@ -21,12 +21,10 @@ pub mod Count
 pub mod NestedLists
 pub mod NestedForms
 pub mod Nested
-pub mod Place
 pub mod Unfold
 pub mod SeveralLoop
 pub mod Compounds
 pub mod Ends
 pub mod ExpressionLoops
-pub mod Values
 pub mod ListLoops
 pub mod Parsed

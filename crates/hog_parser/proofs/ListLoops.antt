@@ -6,9 +6,11 @@ use Rattle.hog_grammar.specs.Pieces.{Lexed}
 use Rattle.hog_grammar.specs.Terminal.{Terminal}
 use Rattle.hog_parser.specs.declared.found.Stop.{Stop}
 use Rattle.hog_parser.specs.declared.found.Stop.TheVariants as s
-use Rattle.hog_parser.specs.Marks.{Shut, after_comma, after_name}
-use Rattle.hog_parser.specs.Read.{Fault, Syntax, Got, got, ◌>>=◌, wants, either_way, Read, closing, put, ended_list, others, some, listing, name}
-use Rattle.hog_parser.specs.Gives.{Fails, follows, going, ending}
+use Rattle.hog_terms.specs.Marks.{Shut, after_comma, after_name}
+use Rattle.hog_terms.specs.Listed.{closing}
+use Rattle.hog_parser.specs.Read.{Fault, Syntax, Got, got, ◌>>=◌, wants, either_way, Read, put, ended_list, others, some, listing, name}
+use Rattle.hog_terms.specs.Listed.{follows, going, ending}
+use Rattle.hog_parser.specs.Gives.{Fails}
 
 -- with the items that were read before
 abbrev pub after_items : {A : Type 0} → List A → ℕ → Got (List A) → Result (Got (List A)) Fault

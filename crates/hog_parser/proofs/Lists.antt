@@ -4,8 +4,9 @@ use Rattle.std.specs.Prelude.{map}
 use Rattle.hog_grammar.specs.Terminal.{Terminal}
 use Rattle.hog_grammar.specs.Terminal as k
 use Rattle.hog_grammar.specs.Forms.{Phrase, Listing, Others}
-use Rattle.hog_parser.specs.Marks.{Shut, lead}
-use Rattle.hog_parser.specs.Read.{got, ◌>>=◌, wants, either_way, Read, closing, put, ended_list, others, some, listing}
+use Rattle.hog_terms.specs.Marks.{Shut, lead}
+use Rattle.hog_terms.specs.Listed.{closing}
+use Rattle.hog_parser.specs.Read.{got, ◌>>=◌, wants, either_way, Read, put, ended_list, others, some, listing}
 use Rattle.hog_parser.proofs.Fronts.{Closes}
 use Rattle.hog_parser.proofs.WordTokens.{Each}
 use Rattle.hog_parser.proofs.Climb.{Ends, ends, same_ends, bind_ends}

@@ -5,7 +5,7 @@ use Rattle.hog_grammar.specs.Terminal.{Terminal}
 use Rattle.hog_grammar.specs.Terminal as k
 use Rattle.hog_grammar.specs.Forms.{Governed}
 use Rattle.hog_grammar.specs.Spelling.{OfStm, OfStms, OnlyOne, Condition, Start, Step, bound}
-use Rattle.hog_parser.specs.Marks.{Shut, after_close, after_semi, after_bound, after_catch, lead}
+use Rattle.hog_terms.specs.Marks.{Shut, after_close, after_semi, after_bound, after_catch, lead}
 use Rattle.hog_parser.specs.Read.{Got, got, ◌>>=◌, wants, either_way, Read, listing, name, braced, grown}
 use Rattle.hog_parser.specs.ReadStatements.{readers, begun, governed, otherwise, condition, in_parentheses, conditional, looped, optional, shut_some, run, run_through, run_over, over_each, block, function, tried}
 use Rattle.hog_parser.proofs.Begin.{starts_no_semi, starts_no_close, starts_unbound}

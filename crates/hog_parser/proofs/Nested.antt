@@ -5,7 +5,7 @@ use Rattle.hog_grammar.specs.Terminal.{Terminal}
 use Rattle.hog_grammar.specs.Terminal as k
 use Rattle.hog_grammar.specs.Forms.{goes_on, ends_block}
 use Rattle.hog_grammar.specs.Spelling.{bound}
-use Rattle.hog_parser.specs.Marks.{Shut, after_open, after_close, after_open_brace, after_close_brace, after_semi, after_assign, after_else, after_name, after_function, after_catch, after_bound, is_target}
+use Rattle.hog_terms.specs.Marks.{Shut, after_open, after_close, after_open_brace, after_close_brace, after_semi, after_assign, after_else, after_name, after_function, after_catch, after_bound, is_target}
 use Rattle.hog_parser.specs.Read.{Fault, Syntax, TooNested, Got, got, ◌>>=◌, wants, either_way, Read, Readers, grown, braced}
 use Rattle.hog_parser.specs.ReadStatements.{ended, value_of, named, declared, assigned, assigning, plain, start_of, returned, in_parentheses, condition, only, governed, some_block, otherwise, conditional, looped, shut_some, optional, run, run_through, run_over, over_each, block, function, with_parameters, tried, begun, readers, all_read, program}
 use Rattle.hog_parser.proofs.Fronts.{is_open, is_open_brace, is_semi, is_assign, is_else}

@@ -5,7 +5,7 @@ use Rattle.hog_tree.specs.Plain.{Word, Exp, Name, Prop, PropNullish, Index, Temp
 use Rattle.hog_grammar.specs.Terminal.{Terminal}
 use Rattle.hog_grammar.specs.Terminal as k
 use Rattle.hog_grammar.specs.Spelling.{level_of, tokens_of}
-use Rattle.hog_parser.specs.Marks.{after_close, after_close_bracket, after_open_brace, after_close_brace, after_colon, after_arrow, after_hole, after_word, operator, lead, begins_arrow}
+use Rattle.hog_terms.specs.Marks.{after_close, after_close_bracket, after_open_brace, after_close_brace, after_colon, after_arrow, after_hole, after_word, operator, lead, begins_arrow}
 use Rattle.hog_parser.specs.Read.{Syntax, TooNested, Got, got, ◌>>=◌, wants, Readers, grown, listing, exps, pairs, valued, entry, name, braced, put_text, put_hole, parts, block_body, one_body, body, arrowed, with_body, arrow, short_arrow, closed, first, joined, binary, indexed, called, step, climb, leveled}
 use Rattle.hog_parser.proofs.Fronts.{is_open_brace, is_colon, is_arrow, is_hole}
 use Rattle.hog_parser.proofs.WordTokens.{is_after_word}

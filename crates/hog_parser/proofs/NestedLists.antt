@@ -3,8 +3,9 @@ use Rattle.std.proofs.Common.{◌≡◌, ℕ, zero, suc, ◌+◌, ◌*◌, ◌�
 use Rattle.hog_tree.specs.Plain.{Done}
 use Rattle.hog_grammar.specs.Terminal.{Terminal}
 use Rattle.hog_grammar.specs.Forms.{ends_block}
-use Rattle.hog_parser.specs.Marks.{Shut, after_close, after_close_bracket, after_close_brace, after_comma, after_semi, after_name}
-use Rattle.hog_parser.specs.Read.{Fault, Syntax, TooNested, Got, got, ◌>>=◌, wants, either_way, Read, Readers, closing, put, ended_list, others, some, listing, name, put_stm, several, closed_brace, braced}
+use Rattle.hog_terms.specs.Marks.{Shut, after_close, after_close_bracket, after_close_brace, after_comma, after_semi, after_name}
+use Rattle.hog_terms.specs.Listed.{closing}
+use Rattle.hog_parser.specs.Read.{Fault, Syntax, TooNested, Got, got, ◌>>=◌, wants, either_way, Read, Readers, put, ended_list, others, some, listing, name, put_stm, several, closed_brace, braced}
 use Rattle.hog_parser.proofs.Fronts.{is_close, is_close_bracket, is_close_brace, is_comma, is_semi}
 use Rattle.hog_parser.proofs.SoundParts.{is_name}
 

@@ -5,7 +5,7 @@ use Rattle.hog_grammar.specs.Terminal.{Terminal}
 use Rattle.hog_grammar.specs.Terminal as k
 use Rattle.hog_grammar.specs.Forms.{Phrase, One, NoBrace, goes_on, ends_block, begins_brace, Ending, Ended}
 use Rattle.hog_grammar.specs.Spelling.{IsTarget, Assigned, Declared, Returned}
-use Rattle.hog_parser.specs.Marks.{after_assign, after_semi, lead, starts, is_target}
+use Rattle.hog_terms.specs.Marks.{after_assign, after_semi, lead, starts, is_target}
 use Rattle.hog_parser.specs.Read.{Fault, Syntax, Got, got, ◌>>=◌, either_way, grown}
 use Rattle.hog_parser.specs.ReadStatements.{readers, begun, start_of, plain, ended, assigning, assigned, declared, value_of}
 use Rattle.hog_parser.proofs.Begin.{plain_begun, plain_start, starts_no_semi, starts_in_block}

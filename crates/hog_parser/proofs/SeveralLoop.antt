@@ -7,7 +7,7 @@ use Rattle.hog_grammar.specs.Terminal.{Terminal}
 use Rattle.hog_grammar.specs.Forms.{ends_block}
 use Rattle.hog_parser.specs.declared.found.Stop.{Stop}
 use Rattle.hog_parser.specs.declared.found.Stop.TheVariants.{Syntax, TooNested, OutOfMemory}
-use Rattle.hog_parser.specs.Marks.{after_semi}
+use Rattle.hog_terms.specs.Marks.{after_semi}
 use Rattle.hog_parser.specs.Read as r
 use Rattle.hog_parser.specs.Read.{Fault, Got, got, ◌>>=◌, either_way, Read, several, put_stm}
 use Rattle.hog_parser.specs.Gives.{Fails}

@@ -7,8 +7,9 @@ use Rattle.hog_grammar.specs.Terminal.{Terminal}
 use Rattle.hog_grammar.specs.Terminal as k
 use Rattle.hog_grammar.specs.Forms.{Phrase, Listing, Others}
 use Rattle.hog_grammar.specs.Spelling.{OfStm, StartOf, StepOf}
-use Rattle.hog_parser.specs.Marks.{Shut, after_comma, lead}
-use Rattle.hog_parser.specs.Read.{Fault, Got, got, ◌>>=◌, wants, either_way, Read, Readers, closing, put, ended_list, others, some, listing}
+use Rattle.hog_terms.specs.Marks.{Shut, after_comma, lead}
+use Rattle.hog_terms.specs.Listed.{closing}
+use Rattle.hog_parser.specs.Read.{Fault, Got, got, ◌>>=◌, wants, either_way, Read, Readers, put, ended_list, others, some, listing}
 use Rattle.hog_parser.proofs.Fronts.{Closes, is_comma}
 use Rattle.hog_parser.proofs.Forms.{Spelled}
 

@@ -6,7 +6,7 @@ use Rattle.hog_grammar.specs.Terminal.{Terminal, word}
 use Rattle.hog_grammar.specs.Terminal as k
 use Rattle.hog_grammar.specs.Forms.{Phrase, Listing}
 use Rattle.hog_grammar.specs.Spelling.{level, level_of, tokens_of, items, entries, Bare}
-use Rattle.hog_parser.specs.Marks.{after_close, after_close_bracket, after_close_brace, after_arrow, after_word, operator, lead, begins_arrow}
+use Rattle.hog_terms.specs.Marks.{after_close, after_close_bracket, after_close_brace, after_arrow, after_word, operator, lead, begins_arrow}
 use Rattle.hog_parser.specs.Read.{Syntax, TooNested, Got, got, ◌>>=◌, wants, Readers, listing, exps, pairs, entry, name, parts, body, arrow, short_arrow, arrowed, with_body, grown, closed, first, joined, binary, indexed, called, step, climb, leveled}
 use Rattle.hog_parser.proofs.Fronts.{closes_list, closes_array, closes_dictionary, is_close, is_close_bracket, is_arrow}
 use Rattle.hog_parser.proofs.Levels.{is_operator, lead_of, level_at_least}

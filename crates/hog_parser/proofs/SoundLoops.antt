@@ -5,7 +5,7 @@ use Rattle.hog_grammar.specs.Terminal.{Terminal}
 use Rattle.hog_grammar.specs.Terminal as k
 use Rattle.hog_grammar.specs.Forms.{Phrase, ends_block, begins_else, Governed}
 use Rattle.hog_grammar.specs.Spelling.{OfStm, OfStms, OnlyOne, OfElse, StartOf, StepOf, Start, Step, Condition, bound, Spells}
-use Rattle.hog_parser.specs.Marks.{Shut, after_open, after_close, after_open_brace, after_close_brace, after_semi, after_else, after_function, after_catch, after_bound}
+use Rattle.hog_terms.specs.Marks.{Shut, after_open, after_close, after_open_brace, after_close_brace, after_semi, after_else, after_function, after_catch, after_bound}
 use Rattle.hog_parser.specs.Read.{Syntax, TooNested, Got, got, ◌>>=◌, wants, either_way, Read, Readers, grown, listing, name, several, braced}
 use Rattle.hog_parser.specs.ReadStatements.{in_parentheses, condition, only, governed, some_block, otherwise, conditional, looped, shut_some, optional, run, run_through, run_over, over_each, block, function, with_parameters, tried, begun, readers, all_read, program}
 use Rattle.hog_parser.proofs.Fronts.{is_open, is_close, is_open_brace, is_semi, is_else}

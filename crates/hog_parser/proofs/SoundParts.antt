@@ -6,7 +6,7 @@ use Rattle.hog_grammar.specs.Terminal.{Terminal}
 use Rattle.hog_grammar.specs.Terminal as k
 use Rattle.hog_grammar.specs.Forms.{Phrase, Listing, Braced, begins_brace, ends_block}
 use Rattle.hog_grammar.specs.Spelling.{names, items, entries, OfBody, OfParts, OfStm, OfStms}
-use Rattle.hog_parser.specs.Marks.{after_close, after_close_brace, after_open_brace, after_colon, after_hole, after_name, after_semi, lead}
+use Rattle.hog_terms.specs.Marks.{after_close, after_close_brace, after_open_brace, after_colon, after_hole, after_name, after_semi, lead}
 use Rattle.hog_parser.specs.Read.{Syntax, Got, got, ◌>>=◌, wants, Readers, listing, exps, pairs, entry, valued, name, several, put_stm, braced, closed_brace, parts, put_text, put_hole, body, block_body, one_body}
 use Rattle.hog_parser.proofs.Fronts.{closes_list, is_close_brace, is_open_brace, is_colon, is_hole, is_semi}
 use Rattle.hog_parser.proofs.Moves.{brace_like, stms_move}

@@ -5,7 +5,7 @@ use Rattle.hog_grammar.specs.Terminal.{Terminal}
 use Rattle.hog_grammar.specs.Terminal as k
 use Rattle.hog_grammar.specs.Forms.{One, Ending, Ended, goes_on, ends_block, begins_brace}
 use Rattle.hog_grammar.specs.Spelling.{OfStm, StartOf, StepOf, IsTarget, bound}
-use Rattle.hog_parser.specs.Marks.{after_semi, after_assign, after_name, after_function, after_catch, after_bound, is_target}
+use Rattle.hog_terms.specs.Marks.{after_semi, after_assign, after_name, after_function, after_catch, after_bound, is_target}
 use Rattle.hog_parser.specs.Read.{Syntax, Got, got, ◌>>=◌, Readers, grown}
 use Rattle.hog_parser.specs.ReadStatements.{ended, value_of, named, declared, assigned, assigning, plain, start_of, returned}
 use Rattle.hog_parser.proofs.Fronts.{is_semi, is_assign}

@@ -22,7 +22,7 @@ use Rattle.hog_grammar.specs.Terminal.{Terminal}
 use Rattle.hog_grammar.specs.Terminal as k
 use Rattle.hog_parser.specs.declared.found.Stop.{Stop}
 use Rattle.hog_parser.specs.declared.found.Stop.TheVariants as s
-use Rattle.hog_parser.specs.Marks.{operator, lead, after_open_brace}
+use Rattle.hog_terms.specs.Marks.{operator, lead, after_open_brace}
 use Rattle.hog_parser.specs.Read.{Fault, Syntax, TooNested, Got, got, ◌>>=◌, wants, either_way, Readers, exps, pairs, first, step, climb, leveled, binary, grown, body, block_body, one_body, braced}
 use Rattle.hog_parser.specs.ReadStatements.{begun, start_of, plain, readers}
 use Rattle.hog_parser.specs.Gives.{Fails, followed, list_of, entry_of, entries_of}

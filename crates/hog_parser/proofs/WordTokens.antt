@@ -5,7 +5,7 @@ use Rattle.std.specs.Cmp.Lexicographic.{bytes_decides}
 use Rattle.hog_tree.specs.Plain.{Word}
 use Rattle.hog_grammar.specs.Terminal.{Terminal, word, named, reserved_words}
 use Rattle.hog_grammar.specs.Terminal as k
-use Rattle.hog_parser.specs.Marks.{after_word, is_plain, word_of, with_rest}
+use Rattle.hog_terms.specs.Marks.{after_word, is_plain, word_of, with_rest}
 
 abbrev pub Each : {A : Type 0} → (A → Type 0) → List A → Type 0
 Each P [] = Unit {0}

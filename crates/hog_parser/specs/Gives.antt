@@ -17,17 +17,18 @@ use Rattle.hog_grammar.specs.Terminal as k
 use Rattle.hog_parser.specs.declared.found.Found.{Found}
 use Rattle.hog_parser.specs.declared.found.Stop.{Stop}
 use Rattle.hog_parser.specs.declared.found.Stop.TheVariants as s
-use Rattle.hog_parser.specs.Marks.{Shut, after_close, after_close_bracket, after_close_brace, after_hole}
-use Rattle.hog_parser.specs.Read.{Fault, Syntax, TooNested, ◌>>=◌, Got, got, wants, closing}
-use Rattle.hog_parser.specs.View.{left}
-use Rattle.hog_parser.specs.declared.listed.Closer.{Closer}
-use Rattle.hog_parser.specs.declared.listed.Closer.TheVariants as c
-use Rattle.hog_parser.specs.declared.listed.Follow.{Follow}
-use Rattle.hog_parser.specs.declared.listed.Follow.TheVariants as w
-use Rattle.hog_parser.specs.declared.listed.PartMark.{PartMark}
-use Rattle.hog_parser.specs.declared.listed.PartMark.TheVariants as m
-use Rattle.hog_parser.specs.declared.term.Term.{Term}
-use Rattle.hog_parser.specs.declared.term.Term.TheVariants as t
+use Rattle.hog_terms.specs.Marks.{Shut, after_close, after_close_bracket, after_close_brace, after_hole}
+use Rattle.hog_terms.specs.Listed.{closing}
+use Rattle.hog_parser.specs.Read.{Fault, Syntax, TooNested, ◌>>=◌, Got, got, wants}
+use Rattle.hog_terms.specs.View.{left}
+use Rattle.hog_terms.specs.declared.listed.Closer.{Closer}
+use Rattle.hog_terms.specs.declared.listed.Closer.TheVariants as c
+use Rattle.hog_terms.specs.declared.listed.Follow.{Follow}
+use Rattle.hog_terms.specs.declared.listed.Follow.TheVariants as w
+use Rattle.hog_terms.specs.declared.listed.PartMark.{PartMark}
+use Rattle.hog_terms.specs.declared.listed.PartMark.TheVariants as m
+use Rattle.hog_terms.specs.declared.term.Term.{Term}
+use Rattle.hog_terms.specs.declared.term.Term.TheVariants as t
 
 -- why reading gave nothing, unless memory ran out
 abbrev pub Fails : {B : Type 0} → Lexed → Stop → Result B Fault → Type 0
@@ -59,58 +60,6 @@ entries_of ds = map entry_of (out-DictItems ds).list.items
 abbrev pub stmts_of : Stmts → p.Stms
 stmts_of ss = stms_from ss.list.items
 
-abbrev pub shut_of : Closer → Shut
-shut_of c.Parenthesis = after_close
-shut_of c.Bracket = after_close_bracket
-shut_of c.Brace = after_close_brace
-
--- whether a comma may stand before it
-abbrev pub comma_of : Closer → Bool
-comma_of c.Parenthesis = false
-comma_of c.Bracket = true
-comma_of c.Brace = true
-
--- what follows an item of a list
-abbrev pub follow_of : Lexed → Follow → Option (Bool × List Terminal)
-follow_of c (w.More at) = Some (true, left c at)
-follow_of c (w.End at) = Some (false, left c at)
-follow_of c w.Neither = None
-
--- whether more items follow, and what stands after the mark
-abbrev pub ending : Option (List Terminal) → Option (Bool × List Terminal)
-ending (Some ts) = Some (false, ts)
-ending None = None
-
-abbrev pub going : Option (List Terminal) → List Terminal → Option (Bool × List Terminal)
-going (Some ts) us = Some (false, ts)
-going None us = Some (true, us)
-
-abbrev pub follows : Bool → Shut → List Terminal → Option (List Terminal) → Option (Bool × List Terminal)
-follows comma shut ts (Some us) = going (closing comma shut us) us
-follows comma shut ts None = ending (shut ts)
-
 -- the expression of a hole, and the hole's end
 abbrev pub holed : Got Exp → Result (Got Exp) Fault
 holed g = wants (after_hole g.rest) (λ us. Ok (got g.tree g.height us))
-
--- It can be made into what trees hold.
-abbrev pub IsReadable : Term → Type 0
-IsReadable (t.Word b) = IsUtf8 b.now × (word b.now ≡ k.Word b.now)
-IsReadable (t.Number b) = value_from 0 b.now ≤ greatest
-IsReadable (t.Text b) = IsUtf8 (meant (unquoted b.now))
-IsReadable (t.Characters b) = IsUtf8 (meant b.now)
-IsReadable _ = Unit {0}
-
--- whether a template's part or its end stands here
-abbrev pub is_part : List Terminal → Bool
-is_part (k.Characters bs ∷ ts) = true
-is_part (k.HoleStart ∷ ts) = true
-is_part (k.TemplateEnd ∷ ts) = true
-is_part _ = false
-
--- what stands here of a template
-abbrev pub StandsAs : Lexed → PartMark → List Terminal → Type 0
-StandsAs c (m.Characters bs i) ts = (ts ≡ k.Characters (meant bs.now) ∷ left c i) × IsUtf8 (meant bs.now)
-StandsAs c (m.Hole i) ts = ts ≡ k.HoleStart ∷ left c i
-StandsAs c (m.End i) ts = ts ≡ k.TemplateEnd ∷ left c i
-StandsAs c m.Neither ts = is_part ts ≡ false

@@ -6,7 +6,7 @@ use Rattle.hog_grammar.specs.Terminal.{Terminal}
 use Rattle.hog_grammar.specs.Terminal as k
 use Rattle.hog_grammar.specs.Forms.{ends_block}
 use Rattle.hog_grammar.specs.Spelling.{level_of}
-use Rattle.hog_parser.specs.Marks.{Shut, after_close, after_close_bracket, after_open_brace, after_close_brace, after_comma, after_semi, after_colon, after_arrow, after_hole, after_name, after_word, operator, lead, begins_arrow}
+use Rattle.hog_terms.specs.Marks.{Shut, after_close, after_close_bracket, after_open_brace, after_close_brace, after_comma, after_semi, after_colon, after_arrow, after_hole, after_name, after_word, operator, lead, begins_arrow}
 
 -- why nothing was read
 pub data Fault : Type 0 where
@@ -52,9 +52,6 @@ abbrev pub grown : {A B : Type 0} → (A → B) → Got A → Result (Got B) Fau
 grown make g = Ok (got (make g.tree) (suc g.height) g.rest)
 
 -- Lists.
-
-abbrev pub closing : Bool → Shut → Shut
-closing comma shut ts = cond comma (shut ts) None
 
 abbrev pub put : {A : Type 0} → Got A → Got (List A) → Result (Got (List A)) Fault
 put g r = Ok (got (g.tree ∷ r.tree) (max g.height r.height) r.rest)

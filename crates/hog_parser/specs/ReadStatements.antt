@@ -4,7 +4,7 @@ use Rattle.hog_tree.specs.Plain.{Word, Exp, Stm, Let, Assign, Do, Return, Throw,
 use Rattle.hog_grammar.specs.Terminal.{Terminal}
 use Rattle.hog_grammar.specs.Terminal as k
 use Rattle.hog_grammar.specs.Forms.{goes_on, ends_block}
-use Rattle.hog_parser.specs.Marks.{Shut, after_open, after_close, after_open_brace, after_close_brace, after_semi, after_assign, after_else, after_name, after_function, after_catch, after_bound, is_target}
+use Rattle.hog_terms.specs.Marks.{Shut, after_open, after_close, after_open_brace, after_close_brace, after_semi, after_assign, after_else, after_name, after_function, after_catch, after_bound, is_target}
 use Rattle.hog_parser.specs.Read.{Fault, Syntax, TooNested, Got, got, ◌>>=◌, wants, either_way, Read, Readers, grown, listing, name, several, braced, leveled}
 
 -- the `;` after a statement, where it is not left out

@@ -5,22 +5,24 @@ ghost use Rattle.hog_tree.specs.Plain.{Name, Template, Array, Dict, Neg, Not, Co
 ghost use Rattle.hog_tree.specs.View.{word_of, words_of, exp_of, body_of};
 ghost use Rattle.hog_parser.specs.Read.{either_way, wants, got, grown, first, step, climb, listing, exps, pairs, entry, parts, body, arrowed, arrow, short_arrow, closed, joined, binary, indexed, called};
 ghost use Rattle.hog_parser.specs.ReadStatements.{readers};
-ghost use Rattle.hog_parser.specs.View.{left};
-ghost use Rattle.hog_parser.specs.Gives.{Gives, followed, list_of, entry_of, entries_of, comma_of, shut_of, holed};
-ghost use Rattle.hog_parser.specs.Marks.{after_close, after_close_bracket, after_close_brace, after_arrow, after_word};
+ghost use Rattle.hog_terms.specs.View.{left};
+ghost use Rattle.hog_terms.specs.Listed.{comma_of, shut_of};
+ghost use Rattle.hog_parser.specs.Gives.{Gives, followed, list_of, entry_of, entries_of, holed};
+ghost use Rattle.hog_terms.specs.Marks.{after_close, after_close_bracket, after_close_brace, after_arrow, after_word};
 
-use crate::cursor::next;
 use crate::found::{Found, Stop};
-use crate::listed::{Closer, Follow, PartMark, closing, following, names, part_at};
-use crate::literals::{characters, number, quoted};
-use crate::marks::{
+use crate::parameters::names;
+use crate::statements::braced;
+use hog_grammar::Tokens;
+use hog_terms::cursor::next;
+use hog_terms::listed::{Closer, Follow, PartMark, closing, following, part_at};
+use hog_terms::literals::{characters, number, quoted};
+use hog_terms::marks::{
     arrow, arrow_fault, begins_arrow, close, close_bracket, colon, hole, infix_at, lead_level,
     level_of, open_brace, remaining,
 };
-use crate::statements::braced;
-use crate::term::Term;
-use crate::words::{name_of, property};
-use hog_grammar::Tokens;
+use hog_terms::term::Term;
+use hog_terms::words::{name_of, property};
 use hog_tree::tree::{
     ArrowBody, BinaryOp, DictItem, DictItems, Expr, Exprs, Named, Names, Part, Parts,
 };

@@ -7,14 +7,14 @@ ghost use Rattle.hog_grammar.specs.Terminal.{terminals};
 ghost use Rattle.hog_grammar.specs.Spelling.{Spells};
 ghost use Rattle.hog_tree.specs.Count.{of_stms};
 ghost use Rattle.hog_parser.specs.ReadStatements.{program};
-ghost use Rattle.hog_parser.specs.View.{left};
+ghost use Rattle.hog_terms.specs.View.{left};
 ghost use Rattle.hog_parser.specs.Before.{tokens_before};
 ghost use Rattle.hog_parser.specs.Gives.{Gives, stmts_of};
 
 use crate::found::{Found, Stop};
-use crate::marks::close_brace;
 use crate::statements::several;
 use hog_grammar::Tokens;
+use hog_terms::marks::close_brace;
 use hog_tree::tree::{Stmts, Tree};
 use std::alloc::{AllocError, Global};
 

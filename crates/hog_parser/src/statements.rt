@@ -5,21 +5,21 @@ ghost use Rattle.hog_tree.specs.Plain.{Throw, Block, NoneStm, SomeStm, NoneExp, 
 ghost use Rattle.hog_tree.specs.View.{word_of, option_word_of, exp_of, stm_of, option_exp_from, option_stm_from, option_stms_from};
 ghost use Rattle.hog_parser.specs.Read.{wants, either_way, got, grown, several, braced};
 ghost use Rattle.hog_parser.specs.ReadStatements.{readers, begun, ended, declared, plain, returned, condition, conditional, governed, otherwise, looped, over_each, run_through, block, optional, with_parameters, tried, in_parentheses};
-ghost use Rattle.hog_parser.specs.View.{left};
+ghost use Rattle.hog_terms.specs.View.{left};
 ghost use Rattle.hog_parser.specs.Gives.{Gives, followed, stmts_of};
-ghost use Rattle.hog_parser.specs.Marks.{after_open, after_semi, after_close, after_function, after_catch, after_bound, is_target};
+ghost use Rattle.hog_terms.specs.Marks.{after_open, after_semi, after_close, after_function, after_catch, after_bound, is_target};
 
-use crate::cursor::next;
 use crate::expressions::expression;
 use crate::found::{Found, Stop};
-use crate::listed::names;
-use crate::marks::{
+use crate::parameters::names;
+use hog_grammar::Tokens;
+use hog_terms::cursor::next;
+use hog_terms::marks::{
     assign, close, close_brace, else_word, ends_block, goes_on, let_word, open, open_brace,
     remaining, semi,
 };
-use crate::term::Term;
-use crate::words::{Bound, bound_names, catch_name, function_name, name};
-use hog_grammar::Tokens;
+use hog_terms::term::Term;
+use hog_terms::words::{Bound, bound_names, catch_name, function_name, name};
 use hog_tree::tree::{Expr, FunTree, Stmt, Stmts};
 use std::alloc::Global;
 

@@ -80,7 +80,7 @@ fn place_exists(alloc: Global, tokens: &Tokens, list: &mut Vec<Stmt>) -> Result<
 }
 
 /// Whether the word stands among the tokens. Takes no memory.
-#[tactic(auto, using(hog_parser::proofs::Place::order_at))]
+#[tactic(auto, using(hog_terms::proofs::Place::order_at))]
 fn mentions(tokens: &Tokens, name: &[u8]) -> bool
     ensures { result ≡ mentions tokens.now name.now }
 {

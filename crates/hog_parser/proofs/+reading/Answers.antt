@@ -4,11 +4,12 @@ use Rattle.std.proofs.lemmas.Result.{err_from_is_err_and}
 use Rattle.hog_tree.specs.declared.tree.ArrowBody.TheViews.{out-roll-DictItems}
 use Rattle.hog_tree.specs.Plain.{Template, MoreText}
 use Rattle.hog_tree.specs.View.{exp_of, word_of, words_of, option_word_of, stm_of, stms_from, option_exp_from, option_stm_from, option_stms_from}
-use Rattle.hog_parser.specs.Marks.{lead, after_close_brace, after_function, after_catch}
+use Rattle.hog_terms.specs.Marks.{lead, after_close_brace, after_function, after_catch}
 use Rattle.hog_parser.specs.Read.{got, grown, entry}
 use Rattle.hog_parser.specs.ReadStatements.{readers}
-use Rattle.hog_parser.specs.View.{left}
-use Rattle.hog_parser.specs.Gives.{followed, comma_of, shut_of, entry_of, stmts_of}
+use Rattle.hog_terms.specs.View.{left}
+use Rattle.hog_terms.specs.Listed.{comma_of, shut_of}
+use Rattle.hog_parser.specs.Gives.{followed, entry_of, stmts_of}
 use Rattle.hog_parser.proofs.Unfold.{dict_found, template_found, followed_fails, block_found, step_infix}
 use Rattle.hog_parser.proofs.ListLoops.{lists_begin, lists_empty, lists_go, lists_end, lists_stray, lists_fail, lists_out, map_snoc, one_less}
 use Rattle.hog_parser.proofs.ExpressionLoops.{climb_goes, climb_fails, climb_ends, climb_is_full, parts_text, parts_hole, parts_hole_fails, parts_end, parts_stray, parts_out}

@@ -1,11 +1,12 @@
 use Rattle.std.proofs.Common.{◌≤◌, ◌+◌, ◌-◌, ◌*◌, length, true}
 use Rattle.std.specs.Prelude.{map}
 use Rattle.hog_tree.specs.View.{exp_of, stms_from}
-use Rattle.hog_parser.specs.Marks.{after_close_brace}
+use Rattle.hog_terms.specs.Marks.{after_close_brace}
 use Rattle.hog_parser.specs.Read.{got, climb, listing, entry, parts, several}
 use Rattle.hog_parser.specs.ReadStatements.{readers}
-use Rattle.hog_parser.specs.View.{left}
-use Rattle.hog_parser.specs.Gives.{comma_of, shut_of, entry_of}
+use Rattle.hog_terms.specs.View.{left}
+use Rattle.hog_terms.specs.Listed.{comma_of, shut_of}
+use Rattle.hog_parser.specs.Gives.{entry_of}
 use Rattle.hog_parser.proofs.ListLoops.{Lists}
 use Rattle.hog_parser.proofs.ExpressionLoops.{Climbs, Parted}
 use Rattle.hog_parser.proofs.SeveralLoop.{Goes}

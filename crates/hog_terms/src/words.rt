@@ -4,9 +4,9 @@ ghost use Rattle.std.specs.Prelude.{◌≡◌, Some, IfOk, option_map};
 ghost use Rattle.std.specs.Str.{IsUtf8};
 ghost use Rattle.hog_tree.specs.View.{option_word_of};
 ghost use Rattle.hog_tree.specs.View as v;
-ghost use Rattle.hog_parser.specs.Gives.{IsReadable};
-ghost use Rattle.hog_parser.specs.Marks.{word_of, after_name, after_word, after_function, after_catch, after_bound, after_first, after_key};
-ghost use Rattle.hog_parser.specs.View.{left, terminal_is};
+ghost use Rattle.hog_terms.specs.View.{IsReadable};
+ghost use Rattle.hog_terms.specs.Marks.{word_of, after_name, after_word, after_function, after_catch, after_bound, after_first, after_key};
+ghost use Rattle.hog_terms.specs.View.{left, terminal_is};
 
 use crate::cursor::next;
 use crate::literals::text_of;

@@ -5,8 +5,8 @@ ghost use Rattle.hog_tree.specs.Plain.{Word};
 ghost use Rattle.hog_grammar.specs.Terminal as k;
 ghost use Rattle.hog_grammar.specs.Forms.{goes_on, ends_block};
 ghost use Rattle.hog_grammar.specs.Spelling.{level_of};
-ghost use Rattle.hog_parser.specs.Marks.{after_open, after_close, after_close_bracket, after_open_brace, after_close_brace, after_comma, after_semi, after_colon, after_assign, after_arrow, after_hole, after_else, after_let, after_in, operator, lead, begins_arrow};
-ghost use Rattle.hog_parser.specs.View.{left};
+ghost use Rattle.hog_terms.specs.Marks.{after_open, after_close, after_close_bracket, after_open_brace, after_close_brace, after_comma, after_semi, after_colon, after_assign, after_arrow, after_hole, after_else, after_let, after_in, operator, lead, begins_arrow};
+ghost use Rattle.hog_terms.specs.View.{left};
 
 use crate::cursor::next;
 use crate::term::Term;

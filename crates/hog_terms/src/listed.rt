@@ -1,20 +1,14 @@
 //! What stands between the items of lists and after them.
 
-ghost use Rattle.std.specs.Prelude.{◌≡◌, ◌≤◌, false, IfOk, option_map};
-ghost use Rattle.hog_tree.specs.View.{words_of};
-ghost use Rattle.hog_parser.specs.Marks.{after_comma, after_close};
-ghost use Rattle.hog_parser.specs.Read.{listing, name};
-ghost use Rattle.hog_parser.specs.View.{left};
-ghost use Rattle.hog_parser.specs.Gives.{Gives, shut_of, comma_of, follow_of, follows, StandsAs};
+ghost use Rattle.std.specs.Prelude.{◌≡◌, option_map};
+ghost use Rattle.hog_terms.specs.Marks.{after_comma};
+ghost use Rattle.hog_terms.specs.Listed.{shut_of, comma_of, follow_of, follows, StandsAs};
+ghost use Rattle.hog_terms.specs.View.{left};
 
 use crate::cursor::next;
-use crate::found::{Found, Stop};
-use crate::marks::{close, close_brace, close_bracket, comma, remaining};
+use crate::marks::{close, close_brace, close_bracket, comma};
 use crate::term::Term;
-use crate::words::name;
 use hog_grammar::Tokens;
-use hog_tree::tree::Names;
-use std::alloc::Global;
 
 /// The mark that closes a list.
 #[derive(Clone, Copy, Debug, PartialEq, Eq)]
@@ -85,38 +79,4 @@ pub fn following(tokens: &Tokens, closer: Closer, at: usize) -> Follow
             None => Follow::More(after),
         },
     }
-}
-
-/// Names with commas between them, and the parenthesis that closes them.
-pub fn names(alloc: Global, tokens: &Tokens, at: usize) -> Result<Found<Names>, Stop>
-    ensures low { IfOk result (λ f. f.height ≡ 0) }
-    ensures gives { Gives words_of tokens.now result (listing name false after_close (left tokens.now at)) }
-{
-    let mut list = Vec::new(alloc);
-    if let Some(at) = close(tokens, at) {
-        return Ok(Found {
-            tree: Names::new(list),
-            height: 0,
-            at,
-        });
-    }
-    let mut begin = at;
-    'items: for _ in 0..remaining(tokens, at) {
-        let Some((word, after)) = name(alloc, tokens, begin)? else {
-            return Err(Stop::Syntax(begin));
-        };
-        list.push(word)?;
-        match following(tokens, Closer::Parenthesis, after) {
-            Follow::More(at) => begin = at,
-            Follow::End(at) => {
-                return Ok(Found {
-                    tree: Names::new(list),
-                    height: 0,
-                    at,
-                });
-            }
-            Follow::Neither => return Err(Stop::Syntax(after)),
-        }
-    }
-    Err(Stop::Syntax(begin))
 }

@@ -1,6 +1,6 @@
 use Rattle.std.proofs.Common.{◌≡◌, ◌≤◌, drop}
 use Rattle.hog_grammar.specs.Bytes.{value_from, greatest}
-use Rattle.hog_parser.proofs.literals.number.Given as goal
+use Rattle.hog_terms.proofs.literals.number.Given as goal
 
 abbrev pub invariant-digits : goal.invariant-digits
 invariant-digits l = record {

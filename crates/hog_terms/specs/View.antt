@@ -1,11 +1,12 @@
 -- What contracts of the parser see of tokens. No reader has to trust this file.
-use Rattle.std.specs.Prelude.{ℕ, List, [], ◌∷◌, drop, Option, Some, None}
-use Rattle.hog_grammar.specs.Bytes.{value_from}
+use Rattle.std.specs.Prelude.{◌≡◌, ◌≤◌, ℕ, List, [], ◌∷◌, drop, Option, Some, None}
+use Rattle.std.specs.Str.{IsUtf8}
+use Rattle.hog_grammar.specs.Bytes.{value_from, greatest}
 use Rattle.hog_grammar.specs.Pieces.{Lexed}
-use Rattle.hog_grammar.specs.Terminal.{Terminal, terminals, meant, unquoted}
+use Rattle.hog_grammar.specs.Terminal.{Terminal, terminals, meant, unquoted, word}
 use Rattle.hog_grammar.specs.Terminal as k
-use Rattle.hog_parser.specs.declared.term.Term.{Term}
-use Rattle.hog_parser.specs.declared.term.Term.TheVariants as t
+use Rattle.hog_terms.specs.declared.term.Term.{Term}
+use Rattle.hog_terms.specs.declared.term.Term.TheVariants as t
 
 abbrev pub terminal_is : Term → Terminal
 terminal_is (t.Word b) = k.Word b.now
@@ -65,3 +66,11 @@ left c at = terminals c.text (drop at c.list)
 abbrev pub uncons : List Terminal → Option (Terminal × List Terminal)
 uncons [] = None
 uncons (t ∷ ts) = Some (t, ts)
+
+-- It can be made into what trees hold.
+abbrev pub IsReadable : Term → Type 0
+IsReadable (t.Word b) = IsUtf8 b.now × (word b.now ≡ k.Word b.now)
+IsReadable (t.Number b) = value_from 0 b.now ≤ greatest
+IsReadable (t.Text b) = IsUtf8 (meant (unquoted b.now))
+IsReadable (t.Characters b) = IsUtf8 (meant b.now)
+IsReadable _ = Unit {0}

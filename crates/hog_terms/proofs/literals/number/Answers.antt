@@ -1,8 +1,8 @@
 use Rattle.std.proofs.Common.{◌≡◌, ◌+◌, ◌-◌, ◌*◌, ◌≤◌, get_or, arith}
 use Rattle.std.proofs.lemmas.Grind.{common_steps}
 use Rattle.hog_grammar.specs.Bytes.{greatest}
-use Rattle.hog_parser.proofs.Values.{value_within}
-use Rattle.hog_parser.proofs.literals.number.Goals as goal
+use Rattle.hog_terms.proofs.Values.{value_within}
+use Rattle.hog_terms.proofs.literals.number.Goals as goal
 
 pub overflow_mul-value : goal.overflow_mul-value
 overflow_mul-value c =

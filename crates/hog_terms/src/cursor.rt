@@ -1,8 +1,8 @@
 //! The next token of a text, and what follows it.
 
 ghost use Rattle.std.specs.Prelude.{◌≡◌, ◌≤◌, ◌+◌, length, option_map, IfSome};
-ghost use Rattle.hog_parser.specs.Gives.{IsReadable};
-ghost use Rattle.hog_parser.specs.View.{terminal_is, left, uncons};
+ghost use Rattle.hog_terms.specs.View.{IsReadable};
+ghost use Rattle.hog_terms.specs.View.{terminal_is, left, uncons};
 
 use crate::term::{Term, meaning};
 use hog_grammar::Tokens;

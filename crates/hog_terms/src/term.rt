@@ -3,8 +3,8 @@
 ghost use Rattle.std.specs.Prelude.{◌≡◌};
 ghost use Rattle.std.specs.Str.{IsUtf8};
 ghost use Rattle.hog_grammar.specs.Terminal.{word, mark, meaning_of, CanBeRead};
-ghost use Rattle.hog_parser.specs.Gives.{IsReadable};
-ghost use Rattle.hog_parser.specs.View.{terminal_is};
+ghost use Rattle.hog_terms.specs.View.{IsReadable};
+ghost use Rattle.hog_terms.specs.View.{terminal_is};
 
 use hog_grammar::TokenKind;
 

@@ -2,11 +2,11 @@ use Rattle.std.proofs.Common.{◌≡◌, ◌+◌, ◌-◌, ◌++◌, false, [], 
 use Rattle.std.proofs.lemmas.Grind.{common_steps}
 use Rattle.hog_tree.specs.View.{word_of, words_of}
 use Rattle.hog_parser.specs.declared.found.Stop.TheVariants as s
-use Rattle.hog_parser.specs.Marks.{after_close, after_name}
+use Rattle.hog_terms.specs.Marks.{after_close, after_name}
 use Rattle.hog_parser.specs.Read.{got, name}
-use Rattle.hog_parser.specs.View.{left}
+use Rattle.hog_terms.specs.View.{left}
 use Rattle.hog_parser.proofs.ListLoops.{lists_begin, lists_empty, lists_go, lists_end, lists_stray, lists_fail, lists_out, name_none, name_some, map_snoc, one_less}
-use Rattle.hog_parser.proofs.listed.names.Goals as goal
+use Rattle.hog_parser.proofs.parameters.names.Goals as goal
 
 pub returns-in-Some-clause-gives : goal.returns-in-Some-clause-gives
 returns-in-Some-clause-gives c =
