@@ -6,6 +6,7 @@ use Rattle.hog_grammar.specs.Terminal.{Terminal}
 use Rattle.hog_grammar.specs.Terminal as k
 use Rattle.hog_grammar.specs.Forms.{ends_block}
 use Rattle.hog_grammar.specs.Spelling.{level_of}
+use Rattle.hog_terms.specs.Listed.{closing}
 use Rattle.hog_terms.specs.Marks.{Shut, after_close, after_close_bracket, after_open_brace, after_close_brace, after_comma, after_semi, after_colon, after_arrow, after_hole, after_name, after_word, operator, lead, begins_arrow}
 
 -- why nothing was read

@@ -1,6 +1,6 @@
 //! The names of a function's parameters.
 
-ghost use Rattle.std.specs.Prelude.{◌≡◌, ◌≤◌, IfOk};
+ghost use Rattle.std.specs.Prelude.{◌≡◌, ◌≤◌, false, IfOk};
 ghost use Rattle.hog_tree.specs.View.{words_of};
 ghost use Rattle.hog_terms.specs.Marks.{after_close};
 ghost use Rattle.hog_terms.specs.View.{left};
