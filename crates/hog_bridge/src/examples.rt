@@ -92,6 +92,16 @@ pub fn caught_name()
     ensures { ShowsBothWays program.caught_name (codes "{}") [] 17 1 [] (Some (Done (codes "[1, 3]"))) }
 {}
 
+/// A function captures what its `catch` reads.
+pub fn captured_in_a_catch()
+    ensures { ShowsBothWays program.captured_in_a_catch (codes "{}") [] 12 1 [] (Some (Done (codes "3"))) }
+{}
+
+/// A `return` leaves its `try`, which catches nothing from then on.
+pub fn returned_from_a_try()
+    ensures { ShowsBothWays program.returned_from_a_try (codes "{}") [] 9 1 [] (Some (Threw (codes "3"))) }
+{}
+
 /// The call at depth 257 ends the run, and no `catch` sees it.
 pub fn too_deep()
     ensures { ShowsBothWays program.too_deep (codes "{}") [] 516 256 [] (Some TooDeep) }
