@@ -1,7 +1,7 @@
 -- Small programs, as plain trees; above each its text.
 use Rattle.std.specs.Prelude.{ℕ, List, [], ◌∷◌, pos, true, Some, None, codes}
 use Rattle.hog_tree.specs.declared.tree.BinaryOp.TheVariants.{And, Or, Equal, Less, Plus, Minus, Times}
-use Rattle.hog_tree.specs.Plain.{Word, Exp, Exps, Pairs, Stm, Stms, Int, Truth, Text, Template, Name, Array, Dict, Binary, Coalesce, Prop, PropNullish, Index, Call, Lambda, NoExp, MoreExp, NoPart, MoreText, MoreHole, NoPair, MorePair, OneExp, Let, Assign, Do, Return, Throw, If, While, For, ForIn, Fun, Try, Block, Done, Then, NoneExp, SomeExp, SomeStm, NoneStms}
+use Rattle.hog_tree.specs.Plain.{Word, Exp, Exps, Pairs, Stm, Stms, Int, Truth, Text, Template, Name, Array, Dict, Binary, Coalesce, Prop, PropNullish, Index, Call, Lambda, NoExp, MoreExp, NoPart, MoreText, MoreHole, NoPair, MorePair, OneExp, ManyStms, Let, Assign, Do, Return, Throw, If, While, For, ForIn, Fun, Try, Block, Done, Then, NoneExp, SomeExp, SomeStm, NoneStms}
 
 -- a statement, and those after it
 infixr 5 ◌⨾◌
@@ -266,6 +266,28 @@ caught_name =
     ⨾ Let f NoneExp
     ⨾ Try (Throw (num 2) ⨾ Done) x (Assign (Name f) (Lambda [] (OneExp (Name x))) ⨾ Assign (Name x) (num 3) ⨾ Done)
     ⨾ gives (array (Name x ∷ call (Name f) [] ∷ []))
+    ⨾ Done
+
+-- A function captures what its `catch` reads.
+--     let x := 1;
+--     let f := () -> { try { throw 2; } catch (e) { return x + e; } };
+--     return f();
+abbrev pub captured_in_a_catch : Stms
+captured_in_a_catch =
+    Let x (SomeExp (num 1))
+    ⨾ Let f (SomeExp (Lambda [] (ManyStms (Try (Throw (num 2) ⨾ Done) e (gives (Binary Plus (Name x) (Name e)) ⨾ Done) ⨾ Done))))
+    ⨾ gives (call (Name f) [])
+    ⨾ Done
+
+-- A `return` leaves its `try`, which catches nothing from then on.
+--     fun f() { try { return 1; } catch (e) { return 2; } }
+--     f();
+--     throw 3;
+abbrev pub returned_from_a_try : Stms
+returned_from_a_try =
+    Fun f [] (Try (gives (num 1) ⨾ Done) e (gives (num 2) ⨾ Done) ⨾ Done)
+    ⨾ Do (call (Name f) [])
+    ⨾ Throw (num 3)
     ⨾ Done
 
 -- The call at depth 257 ends the run, and no `catch` sees it.

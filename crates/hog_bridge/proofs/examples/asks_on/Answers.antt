@@ -4,4 +4,4 @@ use Rattle.hog_bridge.proofs.examples.asks_on.Goals as goal
 
 pub returns : goal.returns
 unfolding computing
-returns c = record { by_meaning = refl; by_course = refl; is_over = tt; goes_on_before = refl }
+returns c = record { by_meaning = refl; by_course = refl; turns_of_meaning = refl; turns_of_course = refl; is_over = tt; goes_on_before = refl }
