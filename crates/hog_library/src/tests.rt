@@ -6,6 +6,7 @@ ghost use Rattle.hog_value.specs.Cells.{IsCovered};
 ghost use Rattle.hog_library.specs.Answers.{AnswerNames};
 
 use crate::call::{CallStop, NativeAnswer, call_native};
+use crate::making::{make_first, make_reply};
 use hog_json::{json_read, json_text};
 use hog_value::meter::{MAX_TURNS, MAX_UNITS};
 use hog_value::{Cell, Heap, HogText, Kind, Meter, Native, Value};
@@ -224,5 +225,22 @@ fn refuses_and_changes_nothing(rt: HostRuntime) -> Result<(), Fail> {
         let got = called(rt.alloc(), native, args, turns, units)?;
         assert_eq!(rt; (got.0.as_str(), got.1, got.2), (answer, 0, 0), "{args}");
     }
+    Ok(())
+}
+
+#[test]
+fn makes_first_cells_and_replies(rt: HostRuntime) -> Result<(), Fail> {
+    let alloc = rt.alloc();
+    let mut heap = Heap::new(alloc);
+    let mut m = Meter::new();
+    let texts = vec![in alloc; text(alloc, "a")?]?;
+    let kept = text(alloc, r#"{"x":[1.5]}"#)?;
+    let globals = make_first(alloc, texts, &kept, &mut heap, &mut m)?;
+    let shown = json_text(alloc, &heap, globals, 100)?;
+    assert_eq!(rt; shown.as_str(), r#"{"x":[null]}"#);
+    let body = text(alloc, r#""a""#)?;
+    let response = make_reply(alloc, 200, &body, &mut heap, &mut m)?;
+    let shown = json_text(alloc, &heap, response, 100)?;
+    assert_eq!(rt; shown.as_str(), r#"{"status":200,"body":"a"}"#);
     Ok(())
 }

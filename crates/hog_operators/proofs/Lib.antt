@@ -1,0 +1,4 @@
+mod Parts
+mod Turns
+mod Named
+mod Settled

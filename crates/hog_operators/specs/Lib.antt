@@ -1,0 +1,4 @@
+pub mod Tests
+pub mod Numbers
+pub mod Pairs
+pub mod Settles
