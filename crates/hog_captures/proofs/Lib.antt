@@ -1,3 +1,4 @@
 pub mod Places
 pub mod Among
 pub mod Taken
+pub mod Finds

@@ -1,7 +1,8 @@
 //! What a function takes from the frame in which it is made.
 
+use crate::frame::Frame;
 use hog_value::HogText;
-use std::alloc::Global;
+use std::alloc::{AllocError, Global};
 use std::marker::Model;
 
 /// The names of the variables that a function captures, each once, in the order of the text. Contracts see the list.
@@ -23,8 +24,9 @@ impl<'t> Model for Captured<'t> {
 }
 
 impl<'t> Captured<'t> {
-    ghost use Rattle.std.specs.Prelude.{◌≡◌, [], length};
-    ghost use Rattle.hog_captures.specs.Frames.{find_up};
+    ghost use Rattle.std.specs.Prelude.{◌≡◌, [], length, OnOk};
+    ghost use Rattle.hog_captures.specs.Frees.{is_among};
+    ghost use Rattle.hog_captures.specs.Frames.{find_up, with_one};
 
     pub(crate) fn none(alloc: Global) -> Captured<'t>
         ensures { result ≡ [] }
@@ -32,6 +34,26 @@ impl<'t> Captured<'t> {
         Captured {
             words: Vec::new(alloc),
         }
+    }
+
+    fn has(&self, word: &HogText) -> bool
+        ensures { result ≡ is_among word.now self.now }
+    {
+        self.place(word).is_some()
+    }
+
+    /// One word more, where the frame knows it and it isn't there.
+    pub(crate) fn add(&mut self, frame: &Frame, word: &'t HogText) -> Result<(), AllocError>
+        ensures { OnOk result (self.new ≡ with_one frame.now self.old word.now) }
+    {
+        if self.has(word) || !frame.knows(word) {
+            return Ok(());
+        }
+        if self.words.len() >= u32::MAX as usize {
+            return Err(AllocError);
+        }
+        self.words.push(word)?;
+        Ok(())
     }
 
     /// How many. Takes no memory.

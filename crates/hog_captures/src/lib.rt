@@ -7,6 +7,7 @@
 
 mod captured;
 mod declared;
+mod finder;
 mod frame;
 mod takes;
 
