@@ -1,18 +1,17 @@
 -- How words are found.
-use Rattle.std.proofs.Common.{◌≡◌, ℕ, ◌+◌, List, [], ◌∷◌, ◌++◌, length, reverse, map, Option, Some, None, is_some, Bool, true, false, not, ◌&&◌, ◌||◌, bytes_eq, cond, refl, sym, ap, ◌∙◌, arith, append-nil, append_assoc, true≢false}
+use Rattle.std.proofs.Common.{◌≡◌, ℕ, List, [], ◌∷◌, ◌++◌, reverse, Option, Some, None, is_some, Bool, true, false, ◌||◌, bytes_eq, cond, refl, sym, ap, ◌∙◌, append_assoc, true≢false}
 use Rattle.std.specs.Cmp.Lexicographic.{bytes_decides}
 use Rattle.std.proofs.lemmas.List.{reverse-append}
 use Rattle.hog_tree.specs.Plain.{Word}
-use Rattle.hog_captures.specs.Frees.{is_among, without, without_all, without_name}
-use Rattle.hog_captures.specs.Frames.{Frame, knows, with_one, captured_of, find_up, next_index}
-use Rattle.hog_captures.specs.Finding.{Finding, nothing_found, with_word, with_words, bind, bind_all, bind_name}
-use Rattle.hog_captures.proofs.Among.{among-without}
+use Rattle.hog_captures.specs.Frees.{is_among, without, without_all}
+use Rattle.hog_captures.specs.Frames.{with_one, find_up, next_index}
+use Rattle.hog_captures.specs.Finding.{Finding, with_word, with_words, bind, bind_all}
 
 pub with_words-append : (xs ys : List Word) (f : Finding) → with_words (xs ++ ys) f ≡ with_words ys (with_words xs f)
 with_words-append [] ys f = refl
 with_words-append (x ∷ xs) ys f = with_words-append xs ys (with_word x f)
 
-other_way : (v w : Word) → bytes_eq v w ≡ bytes_eq w v
+pub other_way : (v w : Word) → bytes_eq v w ≡ bytes_eq w v
 other_way v w = by (bytes_eq v w) refl (bytes_eq w v) refl
   where
     by : (b : Bool) → bytes_eq v w ≡ b → (c : Bool) → bytes_eq w v ≡ c → b ≡ c

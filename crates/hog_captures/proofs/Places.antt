@@ -4,7 +4,7 @@ use Rattle.std.specs.Borrow.{Bor}
 use Rattle.std.proofs.lemmas.List.{map-append, take_more, take-append-drop, drop_more, reverse-append, length-reverse, length-map, length-take-le}
 use Rattle.std.proofs.Math.Seq.{drop-append_seam}
 use Rattle.hog_tree.specs.Plain.{Word}
-use Rattle.hog_captures.specs.Frames.{Frame, find_up, next_index, with_local, with_hidden, with_params}
+use Rattle.hog_captures.specs.Frames.{Frame, find_local, find_up, next_index, capture, captures_of, with_local, with_hidden, with_params}
 use Rattle.hog_captures.specs.View.{name_of, names_of, words_at, last_first}
 
 -- lists that are seen from their end
@@ -23,7 +23,7 @@ module _ {X Y : Type 0} (g : X → Y) where
   turned-take n xs =
       let split : turned (drop n xs) ++ turned (take n xs) ≡ turned xs = sym (turned-append (take n xs) (drop n xs)) ∙ ap turned (take-append-drop n xs) in
       let long : length (turned (drop n xs)) ≡ length (turned xs) - n =
-          length-turned (drop n xs) ∙ length-drop n xs ∙ ap (λ m. m - n) (sym (length-turned xs)) in
+      length-turned (drop n xs) ∙ length-drop n xs ∙ ap (λ m. m - n) (sym (length-turned xs)) in
       sym (drop-append_seam (turned (drop n xs)) (turned (take n xs))) ∙ ap (λ m. drop m (turned (drop n xs) ++ turned (take n xs))) long ∙ ap (drop (length (turned xs) - n)) split
 
 pub names_of-take : (n : ℕ) (xs : List (Option (Bor Word))) → names_of (take n xs) ≡ drop (length (names_of xs) - n) (names_of xs)
@@ -84,3 +84,16 @@ up_found xs i x w lt is none found =
     let hit = find_up-hit (words_at (take i xs)) (words_at (drop (i + 1) xs)) x.now w none found in
     let long : length (words_at (take i xs)) ≡ i = length-map (take i xs) (λ w. w.now) ∙ length-take-le i xs (omega (arith, lt)) in
     sym (sym whole ∙ one ∙ hit ∙ ap Some long)
+
+-- one more captured variable
+captures-snoc : (fr : Frame) (ws : List Word) (w : Word)
+    → captures_of fr (ws ++ w ∷ []) ≡ captures_of fr ws ++ capture (find_local fr.locals w) (find_up fr.ups w) ∷ []
+captures-snoc fr [] w = refl
+captures-snoc fr (v ∷ ws) w = ap (λ r. capture (find_local fr.locals v) (find_up fr.ups v) ∷ r) (captures-snoc fr ws w)
+
+pub captures_more : (fr : Frame) (xs : List (Bor Word)) (i : ℕ) (x : Bor Word) → i < length xs → x ≡ get_or xs i x
+    → captures_of fr (words_at (take (i + 1) xs)) ≡ captures_of fr (words_at (take i xs)) ++ capture (find_local fr.locals x.now) (find_up fr.ups x.now) ∷ []
+captures_more fr xs i x lt is =
+    ap (λ ys. captures_of fr (words_at ys)) (take_more xs i x lt ∙ ap (λ y. take i xs ++ y ∷ []) (sym is))
+    ∙ ap (captures_of fr) (map-append (λ y. y.now) (take i xs) (x ∷ []))
+    ∙ captures-snoc fr (words_at (take i xs)) x.now

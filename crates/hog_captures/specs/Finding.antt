@@ -1,5 +1,5 @@
 -- What is known while the variables are found that a function captures.
-use Rattle.std.specs.Prelude.{List, [], ◌∷◌, Option, Some, None, if◌then◌else◌}
+use Rattle.std.specs.Prelude.{◌≡◌, List, [], ◌∷◌, Option, Some, None, if◌then◌else◌}
 use Rattle.hog_tree.specs.Plain.{Word}
 use Rattle.hog_captures.specs.Frees.{is_among}
 use Rattle.hog_captures.specs.Frames.{Frame, with_one}
@@ -23,6 +23,10 @@ with_word w f = if is_among w f.bound then f else record f { found = with_one f.
 abbrev pub with_words : List Word → Finding → Finding
 with_words [] f = f
 with_words (w ∷ ws) f = with_words ws (with_word w f)
+
+-- `new` is what is known after these words, where `old` was known before
+pub record Finds (old new : Finding) (words : List Word) : Type 0 where
+  pub after : new ≡ with_words words old
 
 -- after the declaration of a name
 abbrev pub bind : Word → Finding → Finding

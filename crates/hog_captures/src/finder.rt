@@ -1,19 +1,16 @@
 //! The words of a function that the frame knows in which it is made.
 
-ghost use Rattle.std.specs.Prelude.{◌≡◌, ◌++◌, List, length, true, OnOk};
+ghost use Rattle.std.specs.Prelude.{◌≡◌, List, [], ◌∷◌, length, OnOk};
 ghost use Rattle.std.specs.Option.{option_map};
 ghost use Rattle.hog_tree.specs.Plain.{Word};
-ghost use Rattle.hog_tree.specs.View.{dict_of, words_of, exp_of, stm_of, body_of, exps_from, parts_from, stms_from, option_exp_from, option_stm_from, option_stms_from};
-ghost use Rattle.hog_captures.specs.Frees.{is_among, exp_frees, exps_frees, parts_frees, pairs_frees, body_frees, stm_frees, stms_frees, option_exp_frees, option_stm_frees, option_stms_frees};
-ghost use Rattle.hog_captures.specs.Finding.{Finding, nothing_found, with_word, with_words, bind, bind_all, bind_name};
+ghost use Rattle.hog_tree.specs.View.{words_of};
+ghost use Rattle.hog_captures.specs.Frees.{is_among};
+ghost use Rattle.hog_captures.specs.Finding.{Finding, nothing_found, Finds, bind, bind_all, bind_name};
 ghost use Rattle.hog_captures.specs.View.{last_first};
 
 use crate::captured::Captured;
-use crate::declared::{declared_by, start_name};
 use crate::frame::Frame;
-use hog_tree::tree::{
-    ArrowBody, DictItems, Expr, Exprs, FunTree, Named, Names, Part, Parts, Stmt, Stmts,
-};
+use hog_tree::tree::{Named, Names};
 use hog_value::HogText;
 use std::alloc::{AllocError, Global};
 use std::marker::Model;
@@ -69,8 +66,9 @@ impl<'f, 't> Finder<'f, 't> {
         self.found
     }
 
-    fn word(&mut self, word: &'t HogText) -> Result<(), AllocError>
-        ensures { OnOk result (self.new ≡ with_word word.now self.old) }
+    /// A word that stands there: found, where it isn't declared around and the frame knows it.
+    pub fn word(&mut self, word: &'t HogText) -> Result<(), AllocError>
+        ensures { OnOk result (Finds self.old self.new (word.now ∷ [])) }
     {
         if is_bound(self.bound.as_slice(), word) {
             return Ok(());
@@ -78,21 +76,23 @@ impl<'f, 't> Finder<'f, 't> {
         self.found.add(self.frame, word)
     }
 
-    // How many names are declared around.
-    fn depth(&self) -> usize
+    /// How many names are declared around. Takes no memory.
+    pub fn depth(&self) -> usize
         ensures { result ≡ length self.now.bound }
     {
         self.bound.len()
     }
 
-    fn bind(&mut self, word: &'t HogText) -> Result<(), AllocError>
+    /// Declares a name.
+    pub fn bind(&mut self, word: &'t HogText) -> Result<(), AllocError>
         ensures { OnOk result (self.new ≡ bind word.now self.old) }
     {
         self.bound.push(word)?;
         Ok(())
     }
 
-    fn bind_name(&mut self, name: Option<&'t Named>) -> Result<(), AllocError>
+    /// Declares a name, where there is one.
+    pub fn bind_name(&mut self, name: Option<&'t Named>) -> Result<(), AllocError>
         ensures { OnOk result (self.new ≡ bind_name (option_map (λ n. n.now.word) name.entry) self.old) }
     {
         match name {
@@ -101,7 +101,8 @@ impl<'f, 't> Finder<'f, 't> {
         }
     }
 
-    fn bind_all(&mut self, names: &'t Names) -> Result<(), AllocError>
+    /// Declares names.
+    pub fn bind_all(&mut self, names: &'t Names) -> Result<(), AllocError>
         ensures { OnOk result (self.new ≡ bind_all (words_of names.now) self.old) }
     {
         for name in names.items() {
@@ -110,8 +111,8 @@ impl<'f, 't> Finder<'f, 't> {
         Ok(())
     }
 
-    // Back to where so many names were declared.
-    fn unbind(&mut self, depth: usize)
+    /// Back to where so many names were declared. Takes no memory.
+    pub fn unbind(&mut self, depth: usize)
         ensures { (f : Finding) (names : List Word) → self.old ≡ bind_all names f → depth ≡ length f.bound → self.new ≡ f }
     {
         self.bound.truncate(depth);

@@ -10,6 +10,7 @@ mod declared;
 mod finder;
 mod frame;
 mod takes;
+mod words;
 
 pub use captured::Captured;
 pub use declared::declared_by;

@@ -1,5 +1,5 @@
-use Rattle.std.proofs.Common.{◌++◌, ◌-◌, length, drop, reverse, ap, sym, ◌∙◌}
-use Rattle.hog_captures.specs.Finding.{Finding, bind_all}
+use Rattle.std.proofs.Common.{◌-◌, length, drop, reverse, ap, ◌∙◌}
+use Rattle.hog_captures.specs.Finding.{Finding}
 use Rattle.hog_captures.specs.View.{last_first}
 use Rattle.hog_captures.proofs.Places.{last_first-take, drop-front}
 use Rattle.hog_captures.proofs.Finds.{binds_before}
