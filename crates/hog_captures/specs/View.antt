@@ -20,3 +20,7 @@ words_at words = map (λ w. w.now) words
 abbrev pub is_name : Word → Option Word → Bool
 is_name w None = false
 is_name w (Some v) = bytes_eq v w
+
+-- words that are lent, the last first
+abbrev pub last_first : List (Bor Word) → List Word
+last_first words = reverse (words_at words)

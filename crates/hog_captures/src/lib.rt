@@ -7,8 +7,10 @@
 
 mod captured;
 mod declared;
+mod finder;
 mod frame;
 mod takes;
+mod words;
 
 pub use captured::Captured;
 pub use declared::declared_by;
