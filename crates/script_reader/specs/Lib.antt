@@ -1,0 +1,4 @@
+pub mod Programs
+pub mod Elements
+pub mod Steps
+pub mod Script

@@ -1,0 +1,4 @@
+pub mod CourseLemmas
+pub mod Runs
+pub mod PlayLemmas
+pub mod Snoc

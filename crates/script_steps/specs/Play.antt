@@ -1,0 +1,271 @@
+-- What a play of steps says, and what it does to rows, history and hands.
+use Rattle.std.specs.Prelude.{◌≡◌, ◌≢◌, ℕ, ◌+◌, ◌<◌, ◌≤◌, ◌⊎◌, ◌^◌, ℤ, List, [], ◌∷◌, ◌++◌, Option, Some, None, IsNone, IsSome, slice_get, slice_set}
+use Rattle.lock_ids.specs.declared.lock.LockId.{LockId}
+use Rattle.cyclotron_jobs.specs.declared.input.JobInput.{JobInput}
+use Rattle.cyclotron_jobs.specs.declared.row.Row.{Row}
+use Rattle.cyclotron_jobs.specs.declared.row.QueueName.{QueueName}
+use Rattle.cyclotron_jobs.specs.declared.row.QueueName.TheVariants as queue
+use Rattle.cyclotron_jobs.specs.declared.row.JobState.{JobState}
+use Rattle.cyclotron_jobs.specs.declared.row.JobState.TheVariants.{Available, Failed}
+use Rattle.cyclotron_jobs.specs.declared.row.After.{After}
+use Rattle.cyclotron_jobs.specs.declared.row.After.TheVariants as after
+use Rattle.cyclotron_jobs.specs.declared.entry.Entry.{Entry}
+use Rattle.cyclotron_jobs.specs.declared.entry.Entry.TheVariants as entry
+use Rattle.cyclotron_jobs.specs.declared.refused.LeaseStop.{LeaseStop}
+use Rattle.cyclotron_jobs.specs.declared.refused.LeaseStop.TheVariants as stop
+use Rattle.cyclotron_jobs.specs.Course.{next_of}
+use Rattle.cyclotron_jobs.specs.Leases.{LeaseOf, AdvanceOf}
+use Rattle.queue_history.specs.Facts.{facts_of, jobs_of, takes_of}
+use Rattle.queue_history.specs.Due.{NoneDue, IsFirstDue, NoneStale, IsFirstStale}
+use Rattle.queue_history.specs.Rows.{IsNewRow}
+use Rattle.cyclotron_core.specs.Queue.{QueueOf}
+use Rattle.cyclotron_core.specs.Changes.{row_after_take, row_after_beat, row_after_run, row_after_put_back, row_after_sweep, lease_of}
+use Rattle.cyclotron_core.specs.Refusals.{IsOwner, RunBegan, Refuses}
+use Rattle.script_steps.specs.Course.{IsWork}
+use Rattle.script_steps.specs.declared.said.Held.{Held}
+use Rattle.script_steps.specs.declared.said.Said.{Said}
+use Rattle.script_steps.specs.declared.said.Said.TheVariants.{Job, Full, Taken, Busy, Nothing, Idle, Fine, Sliced, Asks, Ended, Poisoned, Refused, Keeper}
+use Rattle.script_steps.specs.declared.step.Step.{Step}
+use Rattle.script_steps.specs.declared.step.Step.TheVariants as step
+
+-- what a step finds and leaves: the rows, the history, and what its worker holds
+pub record Place : Type 0 where
+  pub rows : List Row
+  pub history : List Entry
+  pub hand : Option Held
+
+abbrev pub place_of : {K : Type 0} → QueueOf K → Option Held → Place
+place_of queue hand = record { rows = queue.rows; history = queue.history; hand = hand }
+
+-- nothing changed
+pub record Stays (old new : Place) : Type 0 where
+  pub rows : new.rows ≡ old.rows
+  pub history : new.history ≡ old.history
+  pub hand : new.hand ≡ old.hand
+
+-- the hand alone changed
+pub record Hands (old new : Place) (hand : Option Held) : Type 0 where
+  pub rows : new.rows ≡ old.rows
+  pub history : new.history ≡ old.history
+  pub held : new.hand ≡ hand
+
+-- one entry was appended, the row of its job changed, and the worker holds this then
+pub record Appends (old new : Place) (job : ℕ) (change : Row → Row) (appended : Entry) (hand : Option Held) : Type 0 where
+  pub before : Row
+  pub there : slice_get old.rows job ≡ Some before
+  pub rows : new.rows ≡ slice_set old.rows job (change before)
+  pub history : new.history ≡ old.history ++ appended ∷ []
+  pub held : new.hand ≡ hand
+
+-- ---- steps without a worker
+
+-- a job was added under the next number
+pub record Enqueued (input : JobInput) (rank : ℤ) (at : ℕ) (old new : Place) (job : ℕ) : Type 0 where
+  pub number : job ≡ jobs_of old.history
+  pub room : job < 16384
+  pub row : Row
+  pub fresh : IsNewRow row job input rank at
+  pub rows : new.rows ≡ old.rows ++ row ∷ []
+  pub history : new.history ≡ old.history ++ entry.Queued job rank at ∷ []
+
+abbrev pub Enqueues : JobInput → ℤ → ℕ → Place → Said → Place → Type 0
+Enqueues input rank at old (Job job) new = Enqueued input rank at old new job
+Enqueues input rank at old Full new = (16384 ≤ jobs_of old.history) × Stays old new
+Enqueues input rank at old Keeper new = (jobs_of old.history < 16384) × Stays old new
+Enqueues input rank at old said new = ⊥
+
+-- the job that is stale first was swept, and its row is then in this state
+pub record Swept (now : ℕ) (old new : Place) (job : ℕ) (state : JobState) : Type 0 where
+  pub first : IsFirstStale old.history now job
+  pub step : Appends old new job (row_after_sweep now) (entry.Swept job now (facts_of job old.history).beat) old.hand
+  pub then : (row_after_sweep now step.before).state ≡ state
+
+abbrev pub Sweeps : ℕ → Place → Said → Place → Type 0
+Sweeps now old (Job job) new = Swept now old new job Available
+Sweeps now old (Poisoned job) new = Swept now old new job Failed
+Sweeps now old Nothing new = NoneStale old.history now × Stays old new
+Sweeps now old Keeper new = ¬ (NoneStale old.history now) × Stays old new
+Sweeps now old said new = ⊥
+
+-- ---- steps of a worker
+
+-- the job that is due first was taken under a new lock, and the worker holds its lease
+pub record TakesFirst (on : QueueName) (now : ℕ) (old new : Place) (lock : LockId) : Type 0 where
+  pub first : IsFirstDue old.history on now lock.job
+  pub draw : lock.draw ≡ takes_of old.history + 1
+  pub before : Row
+  pub there : slice_get old.rows lock.job ≡ Some before
+  pub rows : new.rows ≡ slice_set old.rows lock.job (row_after_take lock now before)
+  pub history : new.history ≡ old.history ++ entry.Taken lock.job on lock now ∷ []
+  pub held : new.hand ≡ Some (record { lock = lock; lease = lease_of lock before; run = None })
+
+abbrev pub Takes : QueueName → ℕ → Place → Said → Place → Type 0
+Takes on now old (Taken lock) new = (old.hand ≡ None) × TakesFirst on now old new lock
+Takes on now old Busy new = IsSome old.hand × Stays old new
+Takes on now old Nothing new = (old.hand ≡ None) × NoneDue old.history on now × Stays old new
+Takes on now old Keeper new = (old.hand ≡ None) × ¬ (NoneDue old.history on now) × Stays old new
+Takes on now old said new = ⊥
+
+-- A call under a lock is refused in this way; the refusals are tested in their order, and want of memory says nothing.
+pub record IsRefused (history : List Entry) (lock : LockId) (began : Type 0) (why : LeaseStop) : Type 0 where
+  pub cause : Refuses history lock began (Unit {0}) why
+  pub said : why ≢ stop.OutOfMemory
+
+-- the worker holds something, and acts under its lock
+pub record Beaten (now : ℕ) (old new : Place) : Type 0 where
+  pub held : Held
+  pub hand : old.hand ≡ Some held
+  pub owner : IsOwner old.history held.lock
+  pub step : Appends old new held.lock.job (row_after_beat now) (entry.Beat held.lock.job held.lock now) old.hand
+
+pub record RefusedUnder (old new : Place) (stop : LeaseStop) : Type 0 where
+  pub held : Held
+  pub hand : old.hand ≡ Some held
+  pub refused : IsRefused old.history held.lock (Unit {0}) stop
+  pub stays : Stays old new
+
+abbrev pub Beats : ℕ → Place → Said → Place → Type 0
+Beats now old Idle new = (old.hand ≡ None) × Stays old new
+Beats now old Fine new = Beaten now old new
+Beats now old (Refused stop) new = RefusedUnder old new stop
+Beats now old said new = ⊥
+
+pub record GoneBack (at : ℕ) (old new : Place) : Type 0 where
+  pub held : Held
+  pub hand : old.hand ≡ Some held
+  pub owner : IsOwner old.history held.lock
+  pub step : Appends old new held.lock.job (row_after_put_back at) (entry.PutBack held.lock.job held.lock at) None
+
+abbrev pub Backs : ℕ → Place → Said → Place → Type 0
+Backs at old Idle new = (old.hand ≡ None) × Stays old new
+Backs at old Fine new = GoneBack at old new
+Backs at old (Refused stop) new = RefusedUnder old new stop
+Backs at old said new = ⊥
+
+-- the worker holds a lease on hog, and no run
+pub record CanWork (hand : Option Held) : Type 0 where
+  pub held : Held
+  pub is : hand ≡ Some held
+  pub on_hog : held.lease.queue ≡ queue.Hog
+  pub free : held.run ≡ None
+
+abbrev pub said_of : After → ℕ → Said
+said_of after.Hog ops = Sliced ops
+said_of (after.Fetch request) ops = Asks ops
+said_of after.Finished ops = Ended ops
+
+-- the worker holds the run of a slice of work on its lease then
+pub record Worked (slice : ℕ) (old : Place) (said : Said) (new : Place) : Type 0 where
+  pub can : CanWork old.hand
+  pub run : AdvanceOf
+  pub work : IsWork can.held.lease slice run
+  pub word : said ≡ said_of run.after run.to
+  pub hands : Hands old new (Some (record { lock = can.held.lock; lease = can.held.lease; run = Some run }))
+
+abbrev pub Works : ℕ → Place → Said → Place → Type 0
+Works slice old said new = ((said ≡ Idle) × ¬ (CanWork old.hand) × Stays old new) ⊎ Worked slice old said new
+
+-- the worker holds a run
+pub record HoldsRun (hand : Option Held) : Type 0 where
+  pub held : Held
+  pub is : hand ≡ Some held
+  pub run : AdvanceOf
+  pub made : held.run ≡ Some run
+
+pub record Flushed (old new : Place) : Type 0 where
+  pub holds : HoldsRun old.hand
+  pub owner : IsOwner old.history holds.held.lock
+  pub began : RunBegan old.rows holds.held.lock.job holds.run
+  pub step : Appends old new holds.held.lock.job (row_after_run holds.run)
+      (entry.Ran holds.held.lock.job holds.held.lock holds.run.from holds.run.to (next_of holds.run.after)) None
+
+pub record RefusedFlush (old new : Place) (stop : LeaseStop) : Type 0 where
+  pub holds : HoldsRun old.hand
+  pub refused : IsRefused old.history holds.held.lock (RunBegan old.rows holds.held.lock.job holds.run) stop
+  pub stays : Stays old new
+
+abbrev pub Flushes : Place → Said → Place → Type 0
+Flushes old Idle new = ¬ (HoldsRun old.hand) × Stays old new
+Flushes old Fine new = Flushed old new
+Flushes old (Refused stop) new = RefusedFlush old new stop
+Flushes old said new = ⊥
+
+-- no program of sums asks for a reply, so there is never one to answer
+abbrev pub Replies : Place → Said → Place → Type 0
+Replies old said new = (said ≡ Idle) × Stays old new
+
+abbrev pub Loses : Place → Said → Place → Type 0
+Loses old Idle new = (old.hand ≡ None) × Stays old new
+Loses old Fine new = IsSome old.hand × Hands old new None
+Loses old said new = ⊥
+
+-- the worker acts from now on under another lock
+pub record Forged (lock : LockId) (old new : Place) : Type 0 where
+  pub held : Held
+  pub hand : old.hand ≡ Some held
+  pub hands : Hands old new (Some (record held { lock = lock }))
+
+abbrev pub Forges : LockId → Place → Said → Place → Type 0
+Forges lock old Idle new = (old.hand ≡ None) × Stays old new
+Forges lock old Fine new = Forged lock old new
+Forges lock old said new = ⊥
+
+-- ---- all workers
+
+-- rows, history, and what each worker holds
+pub record Stage : Type 0 where
+  pub rows : List Row
+  pub history : List Entry
+  pub hands : List (Option Held)
+
+abbrev pub stage_of : {K : Type 0} → QueueOf K → List (Option Held) → Stage
+stage_of queue hands = record { rows = queue.rows; history = queue.history; hands = hands }
+
+abbrev pub at_hand : Stage → Option Held → Place
+at_hand stage hand = record { rows = stage.rows; history = stage.history; hand = hand }
+
+-- a step of one worker: the others hold what they held
+pub record ByWorker (acts : Place → Said → Place → Type 0) (worker : ℕ) (old : Stage) (said : Said) (new : Stage) : Type 0 where
+  pub hand : Option Held
+  pub there : slice_get old.hands worker ≡ Some hand
+  pub left : Option Held
+  pub act : acts (at_hand old hand) said (at_hand new left)
+  pub hands : new.hands ≡ slice_set old.hands worker left
+
+-- a step of no worker
+pub record ByNone (acts : Place → Said → Place → Type 0) (old : Stage) (said : Said) (new : Stage) : Type 0 where
+  pub act : acts (at_hand old None) said (at_hand new None)
+  pub hands : new.hands ≡ old.hands
+
+-- what a step says and does. In place of a step that would append an entry the keeper's fault may be said, and all
+-- stays as it was.
+abbrev pub Acts : Step → Stage → Said → Stage → Type 0
+Acts (step.Enqueue input rank at) = ByNone (Enqueues input rank at)
+Acts (step.Take worker on now) = ByWorker (Takes on now) worker
+Acts (step.Beat worker now) = ByWorker (Beats now) worker
+Acts (step.Work worker slice) = ByWorker (Works slice) worker
+Acts (step.Answer worker reply) = ByWorker Replies worker
+Acts (step.Flush worker) = ByWorker Flushes worker
+Acts (step.Sweep now) = ByNone (Sweeps now)
+Acts (step.Lose worker) = ByWorker Loses worker
+Acts (step.Forge worker job draw) = ByWorker (Forges (record { job = job; draw = draw })) worker
+Acts (step.Back worker at) = ByWorker (Backs at) worker
+
+-- steps in order, each with what it says
+abbrev pub PlaysOn : List Step → Stage → List Said → Stage → Type 0
+PlaysOn [] old [] new = new ≡ old
+PlaysOn [] old (said ∷ more) new = ⊥
+PlaysOn (s ∷ steps) old [] new = ⊥
+PlaysOn (s ∷ steps) old (said ∷ more) new = (next : Stage) × Acts s old said next × PlaysOn steps next more new
+
+-- ---- the keeper's faults
+
+-- how many faults of the keeper are said
+abbrev pub faults_in : Said → ℕ
+faults_in Keeper = 1
+faults_in (Refused stop.Keeper) = 1
+faults_in said = 0
+
+-- the count of faults rose by so many, or stands at its greatest
+abbrev pub RoseBy : ℕ → ℕ → ℕ → Type 0
+RoseBy n before after = (before + n ≤ after) ⊎ (2 ^ 64 ≤ after + 1)
