@@ -2,3 +2,5 @@ pub mod Words
 pub mod Places
 pub mod Ahead
 pub mod Heaps
+pub mod Picture
+pub mod Steps

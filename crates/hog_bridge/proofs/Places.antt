@@ -5,7 +5,7 @@ use Rattle.std.proofs.lemmas.Bool.Decides.{eqb_tells, nat_tests}
 use Rattle.hog_value.specs.Values.{Val}
 use Rattle.hog_value.specs.declared.value.Value.TheVariants.{Null}
 use Rattle.vm_frames.specs.State.{Upvalue, Opened, Closed}
-use Rattle.vm_frames.specs.Stack.{value_at, or_null, close}
+use Rattle.vm_frames.specs.Stack.{value_at, or_null, close, one_on}
 
 -- what stands at a place of the stack: a value of the run itself, or a variable of the meaning
 pub data Seat : Type 0 where
@@ -46,6 +46,11 @@ stack_of store (s ∷ L) = shown_seat store s ∷ stack_of store L
 -- the upvalues, each by the variable that owns it
 abbrev pub ups_of : List Seat → List Val → List ℕ → List Upvalue
 ups_of L store xs = map (λ x. up_of L store x) xs
+
+-- the number of the upvalue that a variable owns
+abbrev pub owner_of : List ℕ → ℕ → Option ℕ
+owner_of [] x = None
+owner_of (y ∷ ys) x = cond (y == x) (Some 0) (one_on (owner_of ys x))
 
 -- each variable stands at one place, and has been made
 abbrev pub Distinct : ℕ → List Seat → Type 0
