@@ -3,6 +3,9 @@ pub mod Places
 pub mod Ahead
 pub mod Heaps
 pub mod Turns
+pub mod Operated
 pub mod Picture
 pub mod Steps
 pub mod Parts
+pub mod Exps
+pub mod Lookups

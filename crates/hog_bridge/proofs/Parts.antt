@@ -190,7 +190,7 @@ module _ (g : Given) (n d : ℕ) (c : Ctx) (place : ℕ) (M L : List Seat) (G : 
         go op.Spends f calm second = record { ends = record { last = ends end.MemorySpent waiting; comes = two_steps g S1 waiting _ first second (let q = double (psi g waiting) (omega arith) in omega (arith, q)) (double _ (omega arith)); mode = refl; trace = refl } }
 
   -- what comes of a native
-  native_runs : (o : native.Called Twin) → ((v : Val) (h : HeapOf Twin) (s : Spent) → o ≡ native.Gives v h s → Keeps G.heap h) → FunsKept (FunOk g.code G.owners) o → TurnsGo w.turns o → step g.fixed g.code S1 ≡ of_native here rest (native.called_map built o) S1 → Run g n (landings c) S1 G (ExpAt g n c behind L) (e.of_native (native.called_map meant o) w)
+  pub native_runs : (o : native.Called Twin) → ((v : Val) (h : HeapOf Twin) (s : Spent) → o ≡ native.Gives v h s → Keeps G.heap h) → FunsKept (FunOk g.code G.owners) o → TurnsGo w.turns o → step g.fixed g.code S1 ≡ of_native here rest (native.called_map built o) S1 → Run g n (landings c) S1 G (ExpAt g n c behind L) (e.of_native (native.called_map meant o) w)
   native_runs (native.Gives v h s) keeps funs le is = native_gives v h s (keeps v h s refl) funs le is
   native_runs (native.Prints text s) keeps funs le is = native_prints text s le is
   native_runs (native.Throws kind) keeps funs le is = kind_runs g n d c place (M ++ L) G w r kind is
