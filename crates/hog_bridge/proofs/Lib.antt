@@ -9,3 +9,4 @@ pub mod Steps
 pub mod Parts
 pub mod Exps
 pub mod Lookups
+pub mod Operators

@@ -113,7 +113,7 @@ module _ (g : Given) (n d : ℕ) (c : Ctx) (place : ℕ) (L : List Seat) (G : Gh
       function_built : (k : ℕ) (t : Twin) → fun_at G.heap k ≡ Some t → function_at (heap_map built G.heap) k ≡ Some t.1
       function_built k t e = ap (option_and_then function_in) (slice_get-map (cell_map built) G.heap k) ∙ there (slice_get G.heap k) t e
 
-  upvalue_runs : (j q x : ℕ) → slice_get g.code place ≡ Some (Begins (o.GetUpvalue j)) → CapturedIs c.function c.captured G.heap → (u : ℕ) → slice_get c.captured j ≡ Some u → slice_get G.owners u ≡ Some x → Ready g n d c place L G w → place + 2 ≡ q → Run g n (landings c) (at c place L G w) G (ExpAt g n c q L) (Gives (read w.store x) w)
+  pub upvalue_runs : (j q x : ℕ) → slice_get g.code place ≡ Some (Begins (o.GetUpvalue j)) → CapturedIs c.function c.captured G.heap → (u : ℕ) → slice_get c.captured j ≡ Some u → slice_get G.owners u ≡ Some x → Ready g n d c place L G w → place + 2 ≡ q → Run g n (landings c) (at c place L G w) G (ExpAt g n c q L) (Gives (read w.store x) w)
   unfolding act
   upvalue_runs j q x is cap u taken owner r e =
       let number : slice_get (captured_by (at c place L G w) (frame place c.base c.function)) j ≡ Some u = ap (λ xs. slice_get xs j) (captured_is c.function c.captured cap) ∙ taken in

@@ -169,3 +169,15 @@ temps_distinct n (v ∷ vs) L h = temps_distinct n vs (Temp v ∷ L) h
 pub length-temps : (vs : List Val) (L : List Seat) → length (temps vs L) ≡ length vs + length L
 length-temps [] L = omega arith
 length-temps (v ∷ vs) L = let e = length-temps vs (Temp v ∷ L) in omega arith
+
+-- the same as a list that stands over the layout
+pub seats_of : List Val → List Seat
+seats_of vs = temps vs []
+
+pub temps_over : (vs : List Val) (L : List Seat) → seats_of vs ++ L ≡ temps vs L
+unfolding seats_of
+temps_over vs L = go vs []
+  where
+    go : (vs : List Val) (M : List Seat) → temps vs M ++ L ≡ temps vs (M ++ L)
+    go [] M = refl
+    go (v ∷ vs) M = go vs (Temp v ∷ M)
