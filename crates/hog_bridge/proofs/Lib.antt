@@ -10,3 +10,4 @@ pub mod Parts
 pub mod Exps
 pub mod Lookups
 pub mod Operators
+pub mod Writes
