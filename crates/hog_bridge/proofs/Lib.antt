@@ -11,3 +11,4 @@ pub mod Exps
 pub mod Lookups
 pub mod Operators
 pub mod Writes
+pub mod Follow
