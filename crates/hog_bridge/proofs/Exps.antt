@@ -46,7 +46,7 @@ use Rattle.hog_bridge.proofs.Parts.{Ready, ExpAt, passes, spends, kind_runs, res
 
 -- later in the same frame
 
-get_more : {A : Type 0} (xs more : List A) (u : ℕ) (x : A) → slice_get xs u ≡ Some x → slice_get (xs ++ more) u ≡ Some x
+pub get_more : {A : Type 0} (xs more : List A) (u : ℕ) (x : A) → slice_get xs u ≡ Some x → slice_get (xs ++ more) u ≡ Some x
 get_more [] more u x e = absurd (cc)
 get_more (y ∷ xs) more zero x e = e
 get_more (y ∷ xs) more (suc u) x e = get_more xs more u x e

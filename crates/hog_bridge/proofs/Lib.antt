@@ -12,3 +12,4 @@ pub mod Lookups
 pub mod Operators
 pub mod Writes
 pub mod Follow
+pub mod Captures
