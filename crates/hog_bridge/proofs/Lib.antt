@@ -13,3 +13,4 @@ pub mod Operators
 pub mod Writes
 pub mod Follow
 pub mod Captures
+pub mod Calls
