@@ -52,12 +52,12 @@ pad [] vs = vs
 pad (p ∷ ps) [] = Null ∷ pad ps []
 pad (p ∷ ps) (v ∷ vs) = v ∷ pad ps vs
 
-bind_pad : (ps : List Word) (vs : List Val) (ρ : Env) (w : World) → bind ps vs ρ w ≡ bind ps (pad ps vs) ρ w
+pub bind_pad : (ps : List Word) (vs : List Val) (ρ : Env) (w : World) → bind ps vs ρ w ≡ bind ps (pad ps vs) ρ w
 bind_pad [] vs ρ w = refl
 bind_pad (p ∷ ps) [] ρ w = bind_pad ps [] _ _
 bind_pad (p ∷ ps) (v ∷ vs) ρ w = bind_pad ps vs _ _
 
-length-pad : (ps : List Word) (vs : List Val) → length vs ≤ length ps → length (pad ps vs) ≡ length ps
+pub length-pad : (ps : List Word) (vs : List Val) → length vs ≤ length ps → length (pad ps vs) ≡ length ps
 length-pad [] vs h = omega arith
 length-pad (p ∷ ps) [] h = ap suc (length-pad ps [] (omega arith))
 length-pad (p ∷ ps) (v ∷ vs) h = ap suc (length-pad ps vs (omega arith))
@@ -66,7 +66,7 @@ replicate_seam : (j : ℕ) (x : Val) (xs : List Val) → replicate j x ++ (x ∷
 replicate_seam zero x xs = refl
 replicate_seam (suc j) x xs = ap (λ ys. x ∷ ys) (replicate_seam j x xs)
 
-stack_pad : (ps : List Word) (vs : List Val) (store : List Val) (L : List Seat) → length vs ≤ length ps → stack_of store (temps (pad ps vs) L) ≡ replicate (length ps - length vs) Null ++ stack_of store (temps vs L)
+pub stack_pad : (ps : List Word) (vs : List Val) (store : List Val) (L : List Seat) → length vs ≤ length ps → stack_of store (temps (pad ps vs) L) ≡ replicate (length ps - length vs) Null ++ stack_of store (temps vs L)
 stack_pad [] [] store L h = refl
 stack_pad [] (v ∷ vs) store L h = absurd (omega arith)
 stack_pad (p ∷ ps) [] store L h =
@@ -84,7 +84,7 @@ place_over : (vs : List Val) (L : List Seat) (x : ℕ) → place_of (temps vs L)
 place_over [] L x = refl
 place_over (v ∷ vs) L x = place_over vs (Temp v ∷ L) x
 
-ups_over : (vs us : List Val) (store : List Val) (L : List Seat) (owners : List ℕ) → ups_of (temps vs L) store owners ≡ ups_of (temps us L) store owners
+pub ups_over : (vs us : List Val) (store : List Val) (L : List Seat) (owners : List ℕ) → ups_of (temps vs L) store owners ≡ ups_of (temps us L) store owners
 ups_over vs us store L [] = refl
 ups_over vs us store L (o ∷ os) =
     let a = place_over vs L o ∙ sym (place_over us L o) in
@@ -93,12 +93,12 @@ ups_over vs us store L (o ∷ os) =
     cc
 
 -- the arguments become the callee's variables
-record Bounded (g : Given) (n : ℕ) (ups : List Word) (base : ℕ) (captured : List ℕ) (acc : List (Option Word)) (words : List Word) (L : List Seat) (G : Ghost) (ρ : Env) (w : World) : Type 0 where
-  kept : Kept g n L G w
-  sees : Sees words (record { locals = acc; ups = ups }) ρ base captured L G.owners
-  full : length L ≡ base + length acc
+pub record Bounded (g : Given) (n : ℕ) (ups : List Word) (base : ℕ) (captured : List ℕ) (acc : List (Option Word)) (words : List Word) (L : List Seat) (G : Ghost) (ρ : Env) (w : World) : Type 0 where
+  pub kept : Kept g n L G w
+  pub sees : Sees words (record { locals = acc; ups = ups }) ρ base captured L G.owners
+  pub full : length L ≡ base + length acc
 
-bind_runs : (g : Given) (n : ℕ) (ups : List Word) (base : ℕ) (captured : List ℕ) (fs : List Frame) (ls : List Landing) (ps : List Word) (vs : List Val) (acc : List (Option Word)) (words : List Word) (L : List Seat) (G : Ghost) (ρ : Env) (w : World) → length vs ≡ length ps → Bounded g n ups base captured acc words L G ρ w → (N : List Seat) × (pic fs ls (temps vs L) G w ≡ pic fs ls (N ++ L) G (bind ps vs ρ w).1) × Bounded g n ups base captured (with_params ps acc) (onto ps words) (N ++ L) G (bind ps vs ρ w).0 (bind ps vs ρ w).1
+pub bind_runs : (g : Given) (n : ℕ) (ups : List Word) (base : ℕ) (captured : List ℕ) (fs : List Frame) (ls : List Landing) (ps : List Word) (vs : List Val) (acc : List (Option Word)) (words : List Word) (L : List Seat) (G : Ghost) (ρ : Env) (w : World) → length vs ≡ length ps → Bounded g n ups base captured acc words L G ρ w → (N : List Seat) × (pic fs ls (temps vs L) G w ≡ pic fs ls (N ++ L) G (bind ps vs ρ w).1) × Bounded g n ups base captured (with_params ps acc) (onto ps words) (N ++ L) G (bind ps vs ρ w).0 (bind ps vs ρ w).1
 bind_runs g n ups base captured fs ls [] [] acc words L G ρ w e k = ([], refl, k)
 bind_runs g n ups base captured fs ls [] (v ∷ vs) acc words L G ρ w e k = absurd (cc)
 bind_runs g n ups base captured fs ls (p ∷ ps) [] acc words L G ρ w e k = absurd (cc)
@@ -121,7 +121,7 @@ bind_runs g n ups base captured fs ls (p ∷ ps) (v ∷ vs) acc words L G ρ w e
     append_one (y ∷ N) x L = ap (λ ys. y ∷ ys) (append_one N x L)
 
 -- a callee's frame stands on its caller's
-lands_enter : (base base2 : ℕ) (fn fn2 : Option ℕ) (place : ℕ) (fs : List Frame) (N L : List Seat) (own outer : List Landing) → Under place own → OuterLands (length fs) outer → Lands base fn fs L (own ++ outer) → Lands base2 fn2 (frame place base fn ∷ fs) (N ++ L) (own ++ outer)
+pub lands_enter : (base base2 : ℕ) (fn fn2 : Option ℕ) (place : ℕ) (fs : List Frame) (N L : List Seat) (own outer : List Landing) → Under place own → OuterLands (length fs) outer → Lands base fn fs L (own ++ outer) → Lands base2 fn2 (frame place base fn ∷ fs) (N ++ L) (own ++ outer)
 lands_enter base base2 fn fn2 place fs N L own outer u o h = go own outer u o h
   where
     frame_in : (l : Landing) → (l.frames ≡ fs → place ≤ l.target) → FrameIn l base fn fs → FrameIn l base2 fn2 (frame place base fn ∷ fs)
@@ -134,7 +134,7 @@ lands_enter base base2 fn fn2 place fs N L own outer u o h = go own outer u o h
     go [] (l ∷ ls) u o h = top l ls (λ same. let m = ap (length {A = Frame}) same in let o2 = o in absurd (omega arith)) h
     go (l ∷ own) outer u o h = top l (own ++ outer) (λ same. u) h
 
-outer_enter : (m : ℕ) (own outer : List Landing) → OwnLands m own → OuterLands m outer → OuterLands (suc m) (own ++ outer)
+pub outer_enter : (m : ℕ) (own outer : List Landing) → OwnLands m own → OuterLands m outer → OuterLands (suc m) (own ++ outer)
 outer_enter m [] [] o u = tt
 outer_enter m [] (l ∷ ls) o u = let h = u in omega (arith, h)
 outer_enter m (l ∷ own) outer o u = omega (arith, o.0)

@@ -14,3 +14,4 @@ pub mod Writes
 pub mod Follow
 pub mod Captures
 pub mod Calls
+pub mod Entering
