@@ -33,6 +33,7 @@ use Rattle.vm_frames.specs.Throws.{ends, throw_kind, on_outcome, with_turn}
 use Rattle.vm_frames.specs.Step as vm
 use Rattle.vm_frames.specs.Step.{step, act, on_with, on_and_push, make_function, with_arguments, call_found, call_value}
 use Rattle.hog_bridge.proofs.Words.{Sub, sub_params, sub_same, onto}
+use Rattle.hog_bridge.proofs.Resolved.{BodyOk, sight_of}
 use Rattle.hog_bridge.proofs.Places.{Seat, Temp, Var, place_of, up_of, stack_of, ups_of, Distinct, length-stack, temps, length-temps}
 use Rattle.hog_bridge.proofs.Ahead.{HasAt, left, left_later, left_past}
 use Rattle.hog_bridge.proofs.Heaps.{AllFuns, Keeps, keeps_append, all_append, fun_of, fun_at, fun_found}
@@ -98,6 +99,11 @@ pub record Bounded (g : Given) (n : ℕ) (ups : List Word) (base : ℕ) (capture
   pub sees : Sees words (record { locals = acc; ups = ups }) ρ base captured L G.owners
   pub full : length L ≡ base + length acc
 
+pub bind_sight : (ps : List Word) (vs : List Val) (ρ : Env) (w : World) → sight_of (bind ps vs ρ w).0 ≡ onto ps (sight_of ρ)
+bind_sight [] vs ρ w = refl
+bind_sight (p ∷ ps) [] ρ w = bind_sight ps [] _ _
+bind_sight (p ∷ ps) (v ∷ vs) ρ w = bind_sight ps vs _ _
+
 pub bind_runs : (g : Given) (n : ℕ) (ups : List Word) (base : ℕ) (captured : List ℕ) (fs : List Frame) (ls : List Landing) (ps : List Word) (vs : List Val) (acc : List (Option Word)) (words : List Word) (L : List Seat) (G : Ghost) (ρ : Env) (w : World) → length vs ≡ length ps → Bounded g n ups base captured acc words L G ρ w → (N : List Seat) × (pic fs ls (temps vs L) G w ≡ pic fs ls (N ++ L) G (bind ps vs ρ w).1) × Bounded g n ups base captured (with_params ps acc) (onto ps words) (N ++ L) G (bind ps vs ρ w).0 (bind ps vs ρ w).1
 bind_runs g n ups base captured fs ls [] [] acc words L G ρ w e k = ([], refl, k)
 bind_runs g n ups base captured fs ls [] (v ∷ vs) acc words L G ρ w e k = absurd (cc)
@@ -162,9 +168,9 @@ module _ (g : Given) (n d : ℕ) where
       ap (λ p. option_and_then params_in (slice_get g.code p)) e ∙ ap (option_and_then params_in) is
 
   -- a function without a name
-  pub lambda_runs : (c : Ctx) (ρ : Env) (place q : ℕ) (L : List Seat) (name : List ℕ) (ps : List Word) (b : Body) (G : Ghost) (w : World) → (let words = without_all ps (body_frees b) in let xs = captured_of c.scope words in let code = o.Callable name (length ps) (body_code (inner_frame ps xs) b) (captures_of c.scope xs) in (slice_get g.code place ≡ Some (Begins code)) × HasAt g.code (place + header) (body_code (inner_frame ps xs) b) × (place + size code ≡ q) × (place < q)) → Sub (without_all ps (body_frees b)) c.words → Fits g n d c ρ L G w → Under q c.own → Run g n (landings c) (at c place L G w) G (ExpAt g n c q L) (m.of_outcome (made (Fun (record { params = ps; body = b; env = ρ })) w.heap w.units) w)
+  pub lambda_runs : (c : Ctx) (ρ : Env) (place q : ℕ) (L : List Seat) (name : List ℕ) (ps : List Word) (b : Body) (G : Ghost) (w : World) → (let words = without_all ps (body_frees b) in let xs = captured_of c.scope words in let code = o.Callable name (length ps) (body_code (inner_frame ps xs) b) (captures_of c.scope xs) in (slice_get g.code place ≡ Some (Begins code)) × HasAt g.code (place + header) (body_code (inner_frame ps xs) b) × (place + size code ≡ q) × (place < q)) → Sub (without_all ps (body_frees b)) c.words → BodyOk (onto ps c.sight) b → Fits g n d c ρ L G w → Under q c.own → Run g n (landings c) (at c place L G w) G (ExpAt g n c q L) (m.of_outcome (made (Fun (record { params = ps; body = b; env = ρ })) w.heap w.units) w)
   unfolding act
-  lambda_runs c ρ place q L name ps b G w has sub h u =
+  lambda_runs c ρ place q L name ps b G w has sub good h u =
       let fr = c.scope in
       let words = without_all ps (body_frees b) in
       let xs = captured_of fr words in
@@ -181,6 +187,7 @@ module _ (g : Given) (n d : ℕ) where
       let fun : Closure = record { params = ps; body = b; env = ρ } in
       let ok : FunOk g.code (G.owners ++ t.more) (fun, cell) = record {
         ups = xs; code_at = has.1; params = params_found place name (length ps) body caps has.0;
+        calls = subst (λ V. BodyOk (onto ps V) b) (sym h.sight) good;
         sees = taken_sees w.store L f c.captured height high fr ρ c.words words G.owners got sub h.sees t;
       } in
       let go_on : Val → State → State = λ v s1. record (on_and_push (spot c place (place + size code)) s1.stack v s1) { upvalues = got.1 } in

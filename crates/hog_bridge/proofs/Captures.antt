@@ -219,7 +219,7 @@ module _ (store : List Val) (L : List Seat) (f : Frame) (captured : List ℕ) (h
 -- the functions that were there see what they saw
 pub fun_on : (code : List Slot) (owners more : List ℕ) (t : Twin) → FunOk code owners t → FunOk code (owners ++ more) t
 fun_on code owners more t k = record {
-  ups = k.ups; code_at = k.code_at; params = k.params;
+  ups = k.ups; code_at = k.code_at; params = k.params; calls = k.calls;
   sees = λ x i. up_sees_on (find_up k.ups x) (find_var t.0.env x) t.1.captured owners more (k.sees x i);
 }
 

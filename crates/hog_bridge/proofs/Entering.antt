@@ -33,6 +33,7 @@ use Rattle.vm_frames.specs.Throws.{ends, throw_kind, on_outcome, with_turn}
 use Rattle.vm_frames.specs.Step as vm
 use Rattle.vm_frames.specs.Step.{step, act, on_with, on_and_push, make_function, with_arguments, call_found, call_value}
 use Rattle.hog_bridge.proofs.Words.{Sub, sub_params, sub_same, onto}
+use Rattle.hog_bridge.proofs.Resolved.{sight_of}
 use Rattle.hog_bridge.proofs.Places.{Seat, Temp, Var, place_of, up_of, stack_of, ups_of, Distinct, length-stack, temps, length-temps}
 use Rattle.hog_bridge.proofs.Ahead.{HasAt, left, left_later, left_past}
 use Rattle.hog_bridge.proofs.Heaps.{AllFuns, Keeps, keeps_append, all_append, fun_of, fun_at, fun_found}
@@ -45,19 +46,19 @@ use Rattle.hog_bridge.proofs.Operators.{ready_with}
 use Rattle.hog_bridge.proofs.Writes.{becomes, kept_new, sees_local}
 use Rattle.hog_bridge.proofs.Follow.{ReturnEnds, BodyAt, Follows, run_more, body_more}
 use Rattle.hog_bridge.proofs.Captures.{Taken, take_all, taken_sees, known_names, funs_on}
-use Rattle.hog_bridge.proofs.Calls.{pad, bind_pad, length-pad, stack_pad, ups_over, Bounded, bind_runs, lands_enter, outer_enter, turn_less}
+use Rattle.hog_bridge.proofs.Calls.{pad, bind_pad, length-pad, stack_pad, ups_over, Bounded, bind_sight, bind_runs, lands_enter, outer_enter, turn_less}
 
 -- the context of a callee
-abbrev pub callee : Ctx → ℕ → List Seat → ℕ → List ℕ → List Word → List Word → List Word → Ctx
-callee c behind L cell captured ps ups words = record {
+abbrev pub callee : Ctx → ℕ → List Seat → ℕ → List ℕ → List Word → List Word → List Word → List Word → Ctx
+callee c behind L cell captured ps ups words V = record {
   base = length L; function = Some cell; captured = captured; frames = frame behind c.base c.function ∷ c.frames; own = []; outer = landings c; below = L;
-  scope = inner_frame ps ups; words = words;
+  scope = inner_frame ps ups; words = words; sight = V;
 }
 
 module _ (g : Given) (n d : ℕ) where
-  back_to : (c : Ctx) (behind : ℕ) (L : List Seat) (cell : ℕ) (captured : List ℕ) (ps ups words : List Word) (f : Flow) (w : World) (G1 : Ghost) (s1 : State) → BodyAt g n (callee c behind L cell captured ps ups words) f w G1 s1 → Run g n (landings c) s1 G1 (ExpAt g n c behind L) (of_body f w)
-  back_to c behind L cell captured ps ups words (GoesOn ρ) w G1 s1 p = absurd p
-  back_to c behind L cell captured ps ups words (Returns v) w G1 s1 p = gives g n (stays g s1) (record { is = p.0; kept = p.1 })
+  back_to : (c : Ctx) (behind : ℕ) (L : List Seat) (cell : ℕ) (captured : List ℕ) (ps ups words V : List Word) (f : Flow) (w : World) (G1 : Ghost) (s1 : State) → BodyAt g n (callee c behind L cell captured ps ups words V) f w G1 s1 → Run g n (landings c) s1 G1 (ExpAt g n c behind L) (of_body f w)
+  back_to c behind L cell captured ps ups words V (GoesOn ρ) w G1 s1 p = absurd p
+  back_to c behind L cell captured ps ups words V (Returns v) w G1 s1 p = gives g n (stays g s1) (record { is = p.0; kept = p.1 })
 
   -- no argument is missing
   all_there : (floor k : ℕ) (st : List Val) → floor + k ≤ length st → with_arguments floor k st ≡ st
@@ -112,7 +113,8 @@ module _ (g : Given) (n d : ℕ) (again : Effect) (ih : Follows g again n) (c : 
       let args = pad ps vs in
       let free = without_all ps (body_frees fun.body) in
       let words = onto ps free in
-      let c2 = callee c behind L k cell.captured ps ok.ups words in
+      let V = onto ps (sight_of fun.env) in
+      let c2 = callee c behind L k cell.captured ps ok.ups words V in
       let k0 : Bounded g t ok.ups (length L) cell.captured [] free L G fun.env w1 = record {
         kept = record { layout = h.kept.layout; owners = h.kept.owners; heap = h.kept.heap; funs = h.kept.funs; texts = h.kept.texts; turns = omega (arith, h.kept.turns) };
         sees = ok.sees; full = omega arith;
@@ -120,7 +122,7 @@ module _ (g : Given) (n d : ℕ) (again : Effect) (ih : Follows g again n) (c : 
       let b = bind_runs g t ok.ups (length L) cell.captured (frame cell.place (length L) (Some k) ∷ c2.frames) (landings c) ps args [] free L G fun.env w1 (length-pad ps vs few) k0 in
       let to = bind ps args fun.env w1 in
       let fits2 : Fits g t (suc d) c2 to.0 (b.0 ++ L) G to.1 = record {
-        kept = b.2.kept; sees = b.2.sees; captured = ((fun, cell), found, refl);
+        kept = b.2.kept; sees = b.2.sees; captured = ((fun, cell), found, refl); sight = bind_sight ps args fun.env w1;
         framed = record {
           lands = lands_enter c.base (length L) c.function (Some k) behind c.frames b.0 L c.own c.outer u h.framed.outer h.framed.lands;
           floor = (b.0, refl); base = refl; own = tt; depth = ap suc h.framed.depth;
@@ -128,9 +130,9 @@ module _ (g : Given) (n d : ℕ) (again : Effect) (ih : Follows g again n) (c : 
         };
       } in
       let is = entered_is g n d c place behind k L vs v ps cell G w1 h.framed (fits_temps vs L h).kept.layout few in
-      let run = ih.body t (omega arith) (suc d) fun.body c2 to.0 cell.place (b.0 ++ L) G to.1 ok.code_at (sub_params ps (body_frees fun.body) free (sub_same free)) fits2 b.2.full tt in
+      let run = ih.body t (omega arith) (suc d) fun.body c2 to.0 cell.place (b.0 ++ L) G to.1 ok.code_at (sub_params ps (body_frees fun.body) free (sub_same free)) ok.calls fits2 b.2.full tt in
       let run2 = run_more g t n (omega arith) (BodyAt g n c2) (body_more g t n (omega arith) c2) run in
-      let run3 = run_then g n run2 (λ f w2 G1 s1 x p. back_to g n d c behind L k cell.captured ps ok.ups words f w2 G1 s1 p) in
+      let run3 = run_then g n run2 (λ f w2 G1 s1 x p. back_to g n d c behind L k cell.captured ps ok.ups words V f w2 G1 s1 p) in
       let m1 = turn_less w.turns (left g.code 0) lt in
       let p1 = left_past g.code place behind (o.CallLocal (length vs)) at_op (omega arith) in
       let p2 = left_later g.code 0 cell.place (omega arith) in

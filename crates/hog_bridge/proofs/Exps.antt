@@ -73,7 +73,7 @@ pub fits_on : {g : Given} {n d : ℕ} {c : Ctx} {ρ : Env} {L : List Seat} {G G1
 fits_on {c = c} {ρ = ρ} {L = L} {G = G} {G1 = G1} h x k = record {
   kept = k; framed = h.framed;
   sees = subst (Sees c.words c.scope ρ c.base c.captured L) (sym x.owners.1) (sees_on c.words c.scope ρ c.base c.captured L G.owners x.owners.0 h.sees);
-  captured = captured_on c.function c.captured G.heap G1.heap x.heap h.captured;
+  captured = captured_on c.function c.captured G.heap G1.heap x.heap h.captured; sight = h.sight;
 }
 
 pub kept_temps : {g : Given} {n : ℕ} (vs : List Val) (L : List Seat) {G : Ghost} {w : World} → Kept g n (temps vs L) G w → Kept g n L G w

@@ -17,14 +17,15 @@ use Rattle.hog_ops.specs.Plain as o
 use Rattle.hog_ops.specs.Plain.{Ops, MoreOp, ◌⊕◌}
 use Rattle.hog_ops.specs.Table.{span}
 use Rattle.vm_frames.specs.State.{Frame, Ended, State}
-use Rattle.hog_bridge.proofs.Words.{Sub}
+use Rattle.hog_bridge.proofs.Words.{Sub, with_word}
+use Rattle.hog_bridge.proofs.Resolved.{StmOk, StmsOk, BodyOk, OptionExpOk, OptionStmOk}
 use Rattle.hog_bridge.proofs.Places.{Seat, Temp, Var}
 use Rattle.hog_bridge.proofs.Ahead.{HasAt}
 use Rattle.hog_bridge.proofs.Picture.{Given, Ghost, Landing, pic, Under, Ctx, landings, at, Framed, Kept, Fits, Reaches, Caught, ThrowEnds, Ends, Run, reaches_after, gives}
 
 -- the context with another frame of names and other words
-abbrev pub scoped : Ctx → names.Frame → List Word → Ctx
-scoped c fr ws = record c { scope = fr; words = ws }
+abbrev pub scoped : Ctx → names.Frame → List Word → List Word → Ctx
+scoped c fr ws V = record c { scope = fr; words = ws; sight = V }
 
 -- after a return: the caller has the value, or the run has ended with it
 abbrev pub ReturnEnds : Given → ℕ → List Frame → List Landing → List Seat → Val → World → Ghost → State → Type 0
@@ -32,16 +33,16 @@ ReturnEnds g n [] outer below v w G s = (s.mode ≡ Ended (charged_end end.Done 
 ReturnEnds g n (f ∷ fs) outer below v w G s = (s ≡ pic (f ∷ fs) outer (Temp v ∷ below) G w) × Kept g n below G w
 
 -- a statement that goes on leaves so many locals more
-pub record GoneOn (g : Given) (n d : ℕ) (c : Ctx) (place : ℕ) (fr : names.Frame) (ws : List Word) (k : ℕ) (L : List Seat) (ρ : Env) (w : World) (G : Ghost) (s : State) : Type 0 where
+pub record GoneOn (g : Given) (n d : ℕ) (c : Ctx) (place : ℕ) (fr : names.Frame) (ws V : List Word) (k : ℕ) (L : List Seat) (ρ : Env) (w : World) (G : Ghost) (s : State) : Type 0 where
   pub new : List Seat
   pub many : length new ≡ k
   pub is : s ≡ at c place (new ++ L) G w
-  pub fits : Fits g n d (scoped c fr ws) ρ (new ++ L) G w
+  pub fits : Fits g n d (scoped c fr ws V) ρ (new ++ L) G w
   pub full : length (new ++ L) ≡ c.base + length fr.locals
 
-abbrev pub StmAt : Given → ℕ → ℕ → Ctx → ℕ → names.Frame → List Word → ℕ → List Seat → Flow → World → Ghost → State → Type 0
-StmAt g n d c place fr ws k L (GoesOn ρ) w G s = GoneOn g n d c place fr ws k L ρ w G s
-StmAt g n d c place fr ws k L (Returns v) w G s = ReturnEnds g n c.frames c.outer c.below v w G s
+abbrev pub StmAt : Given → ℕ → ℕ → Ctx → ℕ → names.Frame → List Word → List Word → ℕ → List Seat → Flow → World → Ghost → State → Type 0
+StmAt g n d c place fr ws V k L (GoesOn ρ) w G s = GoneOn g n d c place fr ws V k L ρ w G s
+StmAt g n d c place fr ws V k L (Returns v) w G s = ReturnEnds g n c.frames c.outer c.below v w G s
 
 -- a body ends by a return
 abbrev pub BodyAt : Given → ℕ → Ctx → Flow → World → Ghost → State → Type 0
@@ -102,10 +103,10 @@ pub record InRange (size i : ℤ) : Type 0 where
 
 -- with fewer turns than n the code of each loop and of each body does what it means
 pub record Follows (g : Given) (again : Effect) (n : ℕ) : Type 0 where
-  pub loop : (i : ℕ) → i < n → (d : ℕ) (a : Exp) (b : Stms) (c : Ctx) (ρ : Env) (place place' : ℕ) (L : List Seat) (G : Ghost) (w : World) → place' ≡ place + span (stm_code c.scope (While a b)) → HasAt g.code place (stm_code c.scope (While a b)) → Sub (stm_frees true (While a b)) c.words → Fits g i d c ρ L G w → length L ≡ c.base + length c.scope.locals → Under place' c.own → Run g i (landings c) (at c place L G w) G (StmAt g i d c place' c.scope c.words 0 L) (again d (Loop a b) ρ w)
-  pub stepped : (i : ℕ) → i < n → (d : ℕ) (a : OptionExp) (s : OptionStm) (b : Stms) (c : Ctx) (ρ : Env) (place place' : ℕ) (L : List Seat) (G : Ghost) (w : World) → place' ≡ place + span (for_loop c.scope a s b) → HasAt g.code place (for_loop c.scope a s b) → Sub (for_words a s b) c.words → Fits g i d c ρ L G w → length L ≡ c.base + length c.scope.locals → Under place' c.own → Run g i (landings c) (at c place L G w) G (StmAt g i d c place' c.scope c.words 0 L) (again d (LoopWithStep a s b) ρ w)
-  pub over : (i : ℕ) → i < n → (d : ℕ) (copies : Copies) (index : ℤ) (v : Val) (b : Stms) (c : Ctx) (ρ : Env) (place place' : ℕ) (L : List Seat) (G : Ghost) (w : World) → place' ≡ place + span (over_code copies.key copies.value c.scope b) → HasAt g.code place (over_code copies.key copies.value c.scope b) → Sub (over_words copies.key copies.value b) c.words → Fits g i d c ρ L G w → length L ≡ c.base + length c.scope.locals → InRange copies.size index → Under place' c.own → Run g i (landings c) (at c place (hidden_seats copies v index L) G w) G (StmAt g i d c place' c.scope c.words 0 L) (again d (LoopOver copies index b) ρ w)
-  pub body : (i : ℕ) → i < n → (d : ℕ) (b : Body) (c : Ctx) (ρ : Env) (place : ℕ) (L : List Seat) (G : Ghost) (w : World) → HasAt g.code place (body_code c.scope b) → Sub (body_frees b) c.words → Fits g i d c ρ L G w → length L ≡ c.base + length c.scope.locals → Under (place + span (body_code c.scope b)) c.own → Run g i (landings c) (at c place L G w) G (BodyAt g i c) (again d (Call b) ρ w)
+  pub loop : (i : ℕ) → i < n → (d : ℕ) (a : Exp) (b : Stms) (c : Ctx) (ρ : Env) (place place' : ℕ) (L : List Seat) (G : Ghost) (w : World) → place' ≡ place + span (stm_code c.scope (While a b)) → HasAt g.code place (stm_code c.scope (While a b)) → Sub (stm_frees true (While a b)) c.words → StmOk c.sight (While a b) → Fits g i d c ρ L G w → length L ≡ c.base + length c.scope.locals → Under place' c.own → Run g i (landings c) (at c place L G w) G (StmAt g i d c place' c.scope c.words c.sight 0 L) (again d (Loop a b) ρ w)
+  pub stepped : (i : ℕ) → i < n → (d : ℕ) (a : OptionExp) (s : OptionStm) (b : Stms) (c : Ctx) (ρ : Env) (place place' : ℕ) (L : List Seat) (G : Ghost) (w : World) → place' ≡ place + span (for_loop c.scope a s b) → HasAt g.code place (for_loop c.scope a s b) → Sub (for_words a s b) c.words → OptionExpOk c.sight a × OptionStmOk c.sight s × StmsOk c.sight b → Fits g i d c ρ L G w → length L ≡ c.base + length c.scope.locals → Under place' c.own → Run g i (landings c) (at c place L G w) G (StmAt g i d c place' c.scope c.words c.sight 0 L) (again d (LoopWithStep a s b) ρ w)
+  pub over : (i : ℕ) → i < n → (d : ℕ) (copies : Copies) (index : ℤ) (v : Val) (b : Stms) (c : Ctx) (ρ : Env) (place place' : ℕ) (L : List Seat) (G : Ghost) (w : World) → place' ≡ place + span (over_code copies.key copies.value c.scope b) → HasAt g.code place (over_code copies.key copies.value c.scope b) → Sub (over_words copies.key copies.value b) c.words → StmsOk (copies.value ∷ with_word copies.key c.sight) b → Fits g i d c ρ L G w → length L ≡ c.base + length c.scope.locals → InRange copies.size index → Under place' c.own → Run g i (landings c) (at c place (hidden_seats copies v index L) G w) G (StmAt g i d c place' c.scope c.words c.sight 0 L) (again d (LoopOver copies index b) ρ w)
+  pub body : (i : ℕ) → i < n → (d : ℕ) (b : Body) (c : Ctx) (ρ : Env) (place : ℕ) (L : List Seat) (G : Ghost) (w : World) → HasAt g.code place (body_code c.scope b) → Sub (body_frees b) c.words → BodyOk c.sight b → Fits g i d c ρ L G w → length L ≡ c.base + length c.scope.locals → Under (place + span (body_code c.scope b)) c.own → Run g i (landings c) (at c place L G w) G (BodyAt g i c) (again d (Call b) ρ w)
 
 module _ (g : Given) (i n : ℕ) (le : i ≤ n) where
   pub kept_more : {L : List Seat} {G : Ghost} {w : World} → Kept g i L G w → Kept g n L G w
@@ -130,15 +131,15 @@ module _ (g : Given) (i n : ℕ) (le : i ≤ n) where
   run_more {A} {ls} {s} {G} {P} P2 {o} f r = record { ends = ends_more ls s G P P2 o f r.ends }
 
   fits_more : {d : ℕ} {c : Ctx} {ρ : Env} {L : List Seat} {G : Ghost} {w : World} → Fits g i d c ρ L G w → Fits g n d c ρ L G w
-  fits_more h = record { kept = kept_more h.kept; framed = h.framed; sees = h.sees; captured = h.captured }
+  fits_more h = record { kept = kept_more h.kept; framed = h.framed; sees = h.sees; captured = h.captured; sight = h.sight }
 
   return_more : (fs : List Frame) (outer : List Landing) (below : List Seat) (v : Val) (w : World) (G : Ghost) (s : State) → ReturnEnds g i fs outer below v w G s → ReturnEnds g n fs outer below v w G s
   return_more [] outer below v w G s r = r
   return_more (f ∷ fs) outer below v w G s r = (r.0, kept_more r.1)
 
-  pub stm_more : (d : ℕ) (c : Ctx) (place : ℕ) (fr : names.Frame) (ws : List Word) (k : ℕ) (L : List Seat) (f : Flow) (w : World) (G : Ghost) (s : State) → StmAt g i d c place fr ws k L f w G s → StmAt g n d c place fr ws k L f w G s
-  stm_more d c place fr ws k L (GoesOn ρ) w G s p = record { new = p.new; many = p.many; is = p.is; fits = fits_more p.fits; full = p.full }
-  stm_more d c place fr ws k L (Returns v) w G s p = return_more c.frames c.outer c.below v w G s p
+  pub stm_more : (d : ℕ) (c : Ctx) (place : ℕ) (fr : names.Frame) (ws V : List Word) (k : ℕ) (L : List Seat) (f : Flow) (w : World) (G : Ghost) (s : State) → StmAt g i d c place fr ws V k L f w G s → StmAt g n d c place fr ws V k L f w G s
+  stm_more d c place fr ws V k L (GoesOn ρ) w G s p = record { new = p.new; many = p.many; is = p.is; fits = fits_more p.fits; full = p.full }
+  stm_more d c place fr ws V k L (Returns v) w G s p = return_more c.frames c.outer c.below v w G s p
 
   pub body_more : (c : Ctx) (f : Flow) (w : World) (G : Ghost) (s : State) → BodyAt g i c f w G s → BodyAt g n c f w G s
   body_more c (GoesOn ρ) w G s p = p
@@ -155,5 +156,5 @@ module _ (g : Given) (n : ℕ) where
   pub run_on : {A : Type 0} {ls : List Landing} {s : State} {G : Ghost} {P : A → World → Ghost → State → Type 0} (P2 : A → World → Ghost → State → Type 0) {o : Got A} → ((a : A) (w : World) (G : Ghost) (s : State) → P a w G s → Reaches g s G (P2 a w)) → Run g n ls s G P o → Run g n ls s G P2 o
   run_on {A} {ls} {s} {G} {P} P2 {o} f r = record { ends = ends_on ls s G P P2 o f r.ends }
 
-pub framed_scope : {d : ℕ} {c : Ctx} (fr : names.Frame) (ws : List Word) {L : List Seat} → Framed d c L → Framed d (scoped c fr ws) L
-framed_scope fr ws f = record { lands = f.lands; floor = f.floor; base = f.base; own = f.own; outer = f.outer; depth = f.depth }
+pub framed_scope : {d : ℕ} {c : Ctx} (fr : names.Frame) (ws V : List Word) {L : List Seat} → Framed d c L → Framed d (scoped c fr ws V) L
+framed_scope fr ws V f = record { lands = f.lands; floor = f.floor; base = f.base; own = f.own; outer = f.outer; depth = f.depth }

@@ -4,6 +4,7 @@ pub mod Ahead
 pub mod Heaps
 pub mod Turns
 pub mod Operated
+pub mod Resolved
 pub mod Picture
 pub mod Steps
 pub mod Parts

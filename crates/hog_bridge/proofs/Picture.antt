@@ -20,7 +20,8 @@ use Rattle.hog_ops.specs.Plain.{Op, Str}
 use Rattle.vm_frames.specs.State.{Slot, Begins, Frame, ThrowFrame, Running, Waiting, Ended, Mode, State, params_at}
 use Rattle.vm_frames.specs.Step.{step}
 use Rattle.vm_frames.specs.Course.{steps}
-use Rattle.hog_bridge.proofs.Words.{In}
+use Rattle.hog_bridge.proofs.Words.{In, onto}
+use Rattle.hog_bridge.proofs.Resolved.{BodyOk, sight_of}
 use Rattle.hog_bridge.proofs.Places.{Seat, Temp, Var, seat_at, place_of, stack_of, ups_of, owner_of, Distinct}
 use Rattle.hog_bridge.proofs.Ahead.{HasAt, left, left_past, left_some}
 use Rattle.hog_bridge.proofs.Heaps.{AllFuns, Keeps, keeps_same, keeps_then, fun_at}
@@ -199,6 +200,7 @@ pub record FunOk (code : List Slot) (owners : List ℕ) (t : Twin) : Type 0 wher
   pub ups : List Word
   pub code_at : HasAt code t.1.place (body_code (inner_frame t.0.params ups) t.0.body)
   pub params : params_at code t.1.place ≡ Some (length t.0.params)
+  pub calls : BodyOk (onto t.0.params (sight_of t.0.env)) t.0.body
   pub sees : (x : Word) → In x (without_all t.0.params (body_frees t.0.body)) → UpSees (find_up ups x) (find_var t.0.env x) t.1.captured owners
 
 -- each variable owns one upvalue at most, and has been made
@@ -236,7 +238,8 @@ Lands base fn fs L (l ∷ ls) =
     FrameIn l base fn fs × ((N : List Seat) × (L ≡ N ++ l.layout)) × Lands l.base l.function l.frames l.layout ls
 
 -- What stays the same while a part of a frame's code runs: `own` are the landings of this frame, `outer` those of its callers,
--- `below` is the stack under the frame, and `words` are those that may be looked up.
+-- `below` is the stack under the frame, `words` are those that may be
+-- looked up, and `sight` are the names in sight.
 pub record Ctx : Type 0 where
   pub base : ℕ
   pub function : Option ℕ
@@ -247,6 +250,7 @@ pub record Ctx : Type 0 where
   pub below : List Seat
   pub scope : names.Frame
   pub words : List Word
+  pub sight : List Word
 
 abbrev pub landings : Ctx → List Landing
 landings c = c.own ++ c.outer
@@ -286,6 +290,7 @@ pub record Fits (g : Given) (n depth : ℕ) (c : Ctx) (ρ : Env) (L : List Seat)
   pub framed : Framed depth c L
   pub sees : Sees c.words c.scope ρ c.base c.captured L G.owners
   pub captured : CapturedIs c.function c.captured G.heap
+  pub sight : sight_of ρ ≡ c.sight
 
 -- the machine comes to this end
 pub record Halts (g : Given) (s : State) (e : End) (w : World) : Type 0 where

@@ -95,7 +95,7 @@ fits_push {c = c} {ρ = ρ} {L = L} {G = G} v h = record {
   kept = kept_push v h.kept;
   framed = framed_push c (Temp v) L h.framed;
   sees = sees_push c.words c.scope ρ c.base c.captured (Temp v) L G.owners h.sees;
-  captured = h.captured;
+  captured = h.captured; sight = h.sight;
 }
 
 pub fits_temps : {g : Given} {n d : ℕ} {c : Ctx} {ρ : Env} {G : Ghost} {w : World} (vs : List Val) (L : List Seat) → Fits g n d c ρ L G w → Fits g n d c ρ (temps vs L) G w
