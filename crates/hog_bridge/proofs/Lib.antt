@@ -16,3 +16,4 @@ pub mod Follow
 pub mod Captures
 pub mod Calls
 pub mod Entering
+pub mod Callees
