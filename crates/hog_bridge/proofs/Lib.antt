@@ -17,3 +17,4 @@ pub mod Captures
 pub mod Calls
 pub mod Entering
 pub mod Callees
+pub mod Expressions
