@@ -18,3 +18,4 @@ pub mod Calls
 pub mod Entering
 pub mod Callees
 pub mod Expressions
+pub mod Blocks
