@@ -162,7 +162,7 @@ turn_less t k lt =
 
 module _ (g : Given) (n d : ℕ) where
   -- the parameters of a function by the place of its body
-  params_found : (place : ℕ) (name : List ℕ) (params : ℕ) (body : Ops) (captures : List Capture) → slice_get g.code place ≡ Some (Begins (o.Callable name params body captures)) → params_at g.code (place + header) ≡ Some params
+  pub params_found : (place : ℕ) (name : List ℕ) (params : ℕ) (body : Ops) (captures : List Capture) → slice_get g.code place ≡ Some (Begins (o.Callable name params body captures)) → params_at g.code (place + header) ≡ Some params
   params_found place name params body captures is =
       let e : (place + header) - header ≡ place = omega arith in
       ap (λ p. option_and_then params_in (slice_get g.code p)) e ∙ ap (option_and_then params_in) is

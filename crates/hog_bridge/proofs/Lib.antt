@@ -19,3 +19,4 @@ pub mod Entering
 pub mod Callees
 pub mod Expressions
 pub mod Blocks
+pub mod Assigns
