@@ -20,3 +20,4 @@ pub mod Callees
 pub mod Expressions
 pub mod Blocks
 pub mod Assigns
+pub mod Loops
