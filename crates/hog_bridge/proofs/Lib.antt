@@ -21,3 +21,4 @@ pub mod Expressions
 pub mod Blocks
 pub mod Assigns
 pub mod Loops
+pub mod Copied
