@@ -69,3 +69,10 @@ left_past (s ∷ ss) (suc p) (suc q) o e lt = left_past ss p q o e (omega arith)
 -- an operation has something before it
 pub left_some : (code : List Slot) (p : ℕ) (o : Op) → slice_get code p ≡ Some (Begins o) → 1 ≤ left code p
 left_some code p o e = let h = left_past code p (suc p) o e (omega arith) in omega arith
+
+-- one after another
+pub has_join : (code : List Slot) (place : ℕ) (a b : Ops) → HasAt code place a → HasAt code (place + span a) b → HasAt code place (a ⊕ b)
+has_join code place NoOp b h k = let e : place + 0 ≡ place = omega arith in subst (λ n. HasAt code n b) e k
+has_join code place (MoreOp o a) b h k =
+    let e : place + (size o + span a) ≡ place + size o + span a = omega arith in
+    (h.0, h.1, has_join code (place + size o) a b h.2 (subst (λ n. HasAt code n b) e k))

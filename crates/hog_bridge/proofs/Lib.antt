@@ -22,3 +22,5 @@ pub mod Blocks
 pub mod Assigns
 pub mod Loops
 pub mod Copied
+pub mod Overs
+pub mod Rounds

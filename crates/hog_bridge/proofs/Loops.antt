@@ -147,8 +147,8 @@ module _ (g : Given) (n d : ℕ) (c : Ctx) (p1 p k : ℕ) (M : List Seat) (G : G
   back_runs later = turned (nat_lt w.turns max_turns) refl
       (op_is g (o.Jump (neg_ℤ (pos (k + 4)))) c p1 M G w is ∙ ap (λ z. jump_or_back (spot c p1 (p1 + 2)) z S) (back_is k)) later
 
--- a turn of a loop: the test, and then what comes of it
-module _ (g : Given) (n d : ℕ) (c : Ctx) (ρ : Env) (p q : ℕ) (C X : Ops) (M : List Seat) (G : Ghost) (w : World) (e : q ≡ p + span (loop_code C X)) (has : HasAt g.code p (loop_code C X)) where
+-- where the parts of a loop stand
+module _ (g : Given) (p : ℕ) (C X : Ops) (has : HasAt g.code p (loop_code C X)) where
   abbrev p1 : ℕ
   p1 = p + span C
 
@@ -170,21 +170,23 @@ module _ (g : Given) (n d : ℕ) (c : Ctx) (ρ : Env) (p q : ℕ) (C X : Ops) (M
   pub loop_back : slice_get g.code p2 ≡ Some (Begins (o.Jump (neg_ℤ (pos (span C + span X + 4)))))
   loop_back = (has_back g.code (p1 + 2) X (one (o.Jump (neg_ℤ (pos (span C + span X + 4))))) loop_rest.2).0
 
-  pub loop_end : p1 + 2 + (span X + 2) ≡ q
-  loop_end = omega (arith, e, span-after C (MoreOp (o.JumpIfFalse (pos (span X + 2))) (X ⊕ one (o.Jump (neg_ℤ (pos (span C + span X + 4)))))), span-after X (one (o.Jump (neg_ℤ (pos (span C + span X + 4))))))
+pub loop_end : (p q : ℕ) (C X : Ops) → q ≡ p + span (loop_code C X) → p + span C + 2 + (span X + 2) ≡ q
+loop_end p q C X e = omega (arith, e, span-after C (MoreOp (o.JumpIfFalse (pos (span X + 2))) (X ⊕ one (o.Jump (neg_ℤ (pos (span C + span X + 4)))))), span-after X (one (o.Jump (neg_ℤ (pos (span C + span X + 4))))))
 
-  pub loop_again : (p2 + 2) - (span C + span X + 4) ≡ p
-  loop_again = omega arith
+pub loop_again : (p : ℕ) (C X : Ops) → (p + span C + 2 + span X + 2) - (span C + span X + 4) ≡ p
+loop_again p C X = omega arith
 
-  pub tested_runs : {P : Flow → World → Ghost → State → Type 0} (o1 : Got Val) (go : World → Got Flow) (gone : World → Got Flow) → Fits g n d c ρ M G w → Run g n (landings c) (at c p M G w) G (ExpAt g n c p1 M) o1 → ((w1 : World) (G1 : Ghost) → Extends G G1 → Fits g n d c ρ M G1 w1 → Run g n (landings c) (at c (p1 + 2) M G1 w1) G1 P (go w1)) → ((w1 : World) (G1 : Ghost) → Extends G G1 → Fits g n d c ρ M G1 w1 → Run g n (landings c) (at c q M G1 w1) G1 P (gone w1)) → Run g n (landings c) (at c p M G w) G P (and_then o1 (λ v w1. cond (truth_of w1.heap v) (go w1) (gone w1)))
+-- a turn of a loop: the test, and then what comes of it
+module _ (g : Given) (n d : ℕ) (c : Ctx) (ρ : Env) (p q : ℕ) (C X : Ops) (M : List Seat) (G : Ghost) (w : World) (e : q ≡ p + span (loop_code C X)) (has : HasAt g.code p (loop_code C X)) where
+  pub tested_runs : {P : Flow → World → Ghost → State → Type 0} (o1 : Got Val) (go : World → Got Flow) (gone : World → Got Flow) → Fits g n d c ρ M G w → Run g n (landings c) (at c p M G w) G (ExpAt g n c (p + span C) M) o1 → ((w1 : World) (G1 : Ghost) → Extends G G1 → Fits g n d c ρ M G1 w1 → Run g n (landings c) (at c (p + span C + 2) M G1 w1) G1 P (go w1)) → ((w1 : World) (G1 : Ghost) → Extends G G1 → Fits g n d c ρ M G1 w1 → Run g n (landings c) (at c q M G1 w1) G1 P (gone w1)) → Run g n (landings c) (at c p M G w) G P (and_then o1 (λ v w1. cond (truth_of w1.heap v) (go w1) (gone w1)))
   tested_runs {P} o1 go gone h r turn stop =
       exp_then g n r (λ v w1 G1 x1 k1.
           let h1 = fits_on h x1 k1 in
-          run_after g n (test_step g n d c ρ p1 (span X + 2) M v G1 w1 loop_jump h1) (extends_same G1) (either G1 w1 x1 h1 (truth_of w1.heap v)))
+          run_after g n (test_step g n d c ρ (p + span C) (span X + 2) M v G1 w1 (loop_jump g p C X has) h1) (extends_same G1) (either G1 w1 x1 h1 (truth_of w1.heap v)))
     where
-      either : (G1 : Ghost) (w1 : World) → Extends G G1 → Fits g n d c ρ M G1 w1 → (b : Bool) → Run g n (landings c) (at c (cond b (p1 + 2) (p1 + 2 + (span X + 2))) M G1 w1) G1 P (cond b (go w1) (gone w1))
+      either : (G1 : Ghost) (w1 : World) → Extends G G1 → Fits g n d c ρ M G1 w1 → (b : Bool) → Run g n (landings c) (at c (cond b (p + span C + 2) (p + span C + 2 + (span X + 2))) M G1 w1) G1 P (cond b (go w1) (gone w1))
       either G1 w1 x1 h1 true = turn w1 G1 x1 h1
-      either G1 w1 x1 h1 false = subst (λ z. Run g n (landings c) (at c z M G1 w1) G1 P (gone w1)) (sym loop_end) (stop w1 G1 x1 h1)
+      either G1 w1 x1 h1 false = subst (λ z. Run g n (landings c) (at c z M G1 w1) G1 P (gone w1)) (sym (loop_end p q C X e)) (stop w1 G1 x1 h1)
 
 -- the further turns of a `while` and of a `for`
 module _ (g : Given) (n d : ℕ) (again : Effect) (ih : Follows g again n) (c : Ctx) (ρ : Env) (p q : ℕ) (L : List Seat) (G : Ghost) (w : World) (h : Fits g n d c ρ L G w) (full : length L ≡ c.base + length c.scope.locals) (u : Under q c.own) where

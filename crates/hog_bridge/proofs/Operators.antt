@@ -117,6 +117,12 @@ module _ (g : Given) (n d : ℕ) (c : Ctx) (ρ : Env) (place : ℕ) (L : List Se
   unfolding act
   integer_step z q is le u = value_step g n d c place [] L G w (ready_with is (omega arith) u h.framed h.kept) (place + 2) (omega arith) (Int z) (op_is g (o.Integer z) c place L G w is)
 
+  -- what stands at a place is pushed
+  pub get_step : (i : ℕ) (v : Val) (q : ℕ) → slice_get g.code place ≡ Some (Begins (o.GetLocal i)) → seat_at L (c.base + i) ≡ Some (Temp v) → place + 2 ≤ q → Under q c.own → Comes g (at c place L G w) (at c (place + 2) (Temp v ∷ L) G w)
+  unfolding act
+  get_step i v q is seat le u = value_step g n d c place [] L G w (ready_with is (omega arith) u h.framed h.kept) (place + 2) (omega arith) v
+      (op_is g (o.GetLocal i) c place L G w is ∙ ap (λ z. on_and_push (spot c place (place + 2)) (stack_of w.store L) (or_null z) (at c place L G w)) (value_seat w.store L (c.base + i) (Temp v) seat))
+
   -- the value of a word, by where it is found
   pub name_runs : (l u v : Option ℕ) (x : Word) (q : ℕ) → SeesWord l u v c.base c.captured L G.owners → HasAt g.code place (read_code l u x) → q ≡ place + span (read_code l u x) → Under q c.own → Run g n (landings c) (at c place L G w) G (ExpAt g n c q L) (read_word g.fixed v x w)
   name_runs (Some i) u (Some y) x q sees has e under =
@@ -158,6 +164,21 @@ module _ (g : Given) (n d : ℕ) (c : Ctx) (ρ : Env) (place : ℕ) (L : List Se
       ending g n e (value_result g n d c place (Temp x ∷ Temp y ∷ []) L G w (ready_with is (omega arith) u framed_two kept_two) (place + 1) (omega arith) (operated op w.heap x y)
       (acts ∙ two_top (λ a b r. on_result (operated op (heap_map built G.heap) a b) (on_and_push here r) S)
        ∙ ap (λ z. on_result z (on_and_push here rest) S) (operated_same h.kept op x y)))
+
+  -- where its result is known
+  binary_step : (op : BinaryOp) (code : Op) (v : Val) → slice_get g.code place ≡ Some (Begins code) → step g.fixed g.code S ≡ binary op here S → operated op w.heap x y ≡ Ok v → Comes g S (at c (place + 1) (Temp v ∷ L) G w)
+  binary_step op code v is acts gave =
+      value_step g n d c place (Temp x ∷ Temp y ∷ []) L G w (ready_with is (omega arith) u framed_two kept_two) (place + 1) (omega arith) v
+      (acts ∙ two_top (λ a b r. on_result (operated op (heap_map built G.heap) a b) (on_and_push here r) S)
+       ∙ ap (λ z. on_result z (on_and_push here rest) S) (operated_same h.kept op x y ∙ gave))
+
+  pub plus_step : (v : Val) → slice_get g.code place ≡ Some (Begins o.Plus) → operated b.Plus w.heap x y ≡ Ok v → Comes g S (at c (place + 1) (Temp v ∷ L) G w)
+  unfolding act
+  plus_step v is gave = binary_step b.Plus o.Plus v is (op_is g o.Plus c place (Temp x ∷ Temp y ∷ L) G w is) gave
+
+  pub at_most_step : (v : Val) → slice_get g.code place ≡ Some (Begins o.LtEq) → operated b.LessEqual w.heap x y ≡ Ok v → Comes g S (at c (place + 1) (Temp v ∷ L) G w)
+  unfolding act
+  at_most_step v is gave = binary_step b.LessEqual o.LtEq v is (op_is g o.LtEq c place (Temp x ∷ Temp y ∷ L) G w is) gave
 
   -- every operator but `and` and `or`
   pub operator_runs : (op : BinaryOp) → is_left_first op ≡ false → slice_get g.code place ≡ Some (Begins (operator_op op)) → Run g n (landings c) S G (ExpAt g n c q L) (m.of_result (operated op w.heap x y) w)
