@@ -19,3 +19,5 @@ pub mod Entering
 pub mod Callees
 pub mod Expressions
 pub mod Blocks
+pub mod Sights
+pub mod Scopes
