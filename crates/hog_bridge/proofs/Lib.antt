@@ -25,3 +25,5 @@ pub mod Loops
 pub mod Copied
 pub mod Overs
 pub mod Rounds
+pub mod Sights
+pub mod Scopes

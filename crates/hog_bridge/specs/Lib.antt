@@ -1,2 +1,3 @@
 pub mod ExamplePrograms
 pub mod Examples
+pub mod Steady
