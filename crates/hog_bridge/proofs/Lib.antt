@@ -24,3 +24,4 @@ pub mod Loops
 pub mod Copied
 pub mod Overs
 pub mod Rounds
+pub mod Copying
