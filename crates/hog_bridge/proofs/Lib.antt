@@ -25,3 +25,4 @@ pub mod Copied
 pub mod Overs
 pub mod Rounds
 pub mod Copying
+pub mod Statements
