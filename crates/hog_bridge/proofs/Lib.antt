@@ -26,3 +26,4 @@ pub mod Overs
 pub mod Rounds
 pub mod Copying
 pub mod Statements
+pub mod Grows
