@@ -47,7 +47,7 @@ module _ (g : Given) (place q : ℕ) (a b : Ops) (op : Op) (e : q ≡ place + sp
   two_end : place + span a + span b + size op ≡ q
   two_end = omega (arith, e, span-after a (b ⊕ MoreOp op NoOp), span-after b (MoreOp op NoOp))
 
-one_end : (place q : ℕ) (a : Ops) (op : Op) → q ≡ place + span (a ⊕ MoreOp op NoOp) → place + span a + size op ≡ q
+pub one_end : (place q : ℕ) (a : Ops) (op : Op) → q ≡ place + span (a ⊕ MoreOp op NoOp) → place + span a + size op ≡ q
 one_end place q a op e = omega (arith, e, span-after a (MoreOp op NoOp))
 
 module _ (g : Given) (n d : ℕ) (again : Effect) (ih : Follows g again n) where

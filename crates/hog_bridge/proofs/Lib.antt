@@ -27,3 +27,6 @@ pub mod Overs
 pub mod Rounds
 pub mod Sights
 pub mod Scopes
+pub mod Copying
+pub mod Statements
+pub mod Grows

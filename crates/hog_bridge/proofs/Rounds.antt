@@ -44,49 +44,49 @@ key_pops (Some x) frees = (pop_is x frees, tt)
 
 -- where the parts of a turn stand
 module _ (g : Given) (c : Ctx) (k : Option Word) (x : Word) (b : Stms) (p : ℕ) (has : HasAt g.code p (over_loop k x c.scope b)) where
-  abbrev K : ℕ
+  abbrev pub K : ℕ
   K = length c.scope.locals + key_count k
 
-  abbrev tf : names.Frame
+  abbrev pub tf : names.Frame
   tf = turn_frame k x c.scope
 
-  abbrev C : Ops
+  abbrev pub C : Ops
   C = more_code (K + 2) (K + 3)
 
-  abbrev X : Ops
+  abbrev pub X : Ops
   X = turn_code k x c.scope b
 
-  abbrev KC : Ops
+  abbrev pub KC : Ops
   KC = key_code k K (K + 3)
 
-  abbrev IC : Ops
+  abbrev pub IC : Ops
   IC = item_code (K + 1) (K + 3)
 
-  abbrev NC : Ops
+  abbrev pub NC : Ops
   NC = next_code (K + 3)
 
-  abbrev PK : Ops
+  abbrev pub PK : Ops
   PK = MoreOp (pop_op x (stms_frees false b)) (key_pop k (stms_frees false b))
 
-  abbrev BP : Ops
+  abbrev pub BP : Ops
   BP = block_pops b
 
-  abbrev BC : Ops
+  abbrev pub BC : Ops
   BC = stms_code tf b
 
-  abbrev pk : ℕ
+  abbrev pub pk : ℕ
   pk = p + span C + 2
 
-  abbrev pi : ℕ
+  abbrev pub pi : ℕ
   pi = pk + span KC
 
-  abbrev pb : ℕ
+  abbrev pub pb : ℕ
   pb = pi + span IC
 
-  abbrev pe : ℕ
+  abbrev pub pe : ℕ
   pe = pb + span BC
 
-  abbrev pn : ℕ
+  abbrev pub pn : ℕ
   pn = pe + span (BP ⊕ PK)
 
   has_x : HasAt g.code pk X
