@@ -21,3 +21,4 @@ pub mod Expressions
 pub mod Blocks
 pub mod Sights
 pub mod Scopes
+pub mod Members
