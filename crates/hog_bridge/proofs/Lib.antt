@@ -22,3 +22,5 @@ pub mod Blocks
 pub mod Sights
 pub mod Scopes
 pub mod Members
+pub mod Agreement
+pub mod Literals
