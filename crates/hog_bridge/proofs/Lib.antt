@@ -24,3 +24,4 @@ pub mod Scopes
 pub mod Members
 pub mod Agreement
 pub mod Literals
+pub mod Counts
