@@ -30,3 +30,7 @@ pub mod Scopes
 pub mod Copying
 pub mod Statements
 pub mod Grows
+pub mod Members
+pub mod Agreement
+pub mod Literals
+pub mod Counts

@@ -1,3 +1,4 @@
 pub mod ExamplePrograms
 pub mod Examples
 pub mod Steady
+pub mod Counts
