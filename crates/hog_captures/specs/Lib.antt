@@ -2,3 +2,4 @@ pub mod Frees
 pub mod Frames
 pub mod Finding
 pub mod View
+pub mod Examples

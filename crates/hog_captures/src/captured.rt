@@ -10,6 +10,7 @@ use std::alloc::{AllocError, Global};
 use std::marker::Model;
 
 /// The names of the variables that a function captures, each once, in the order of the text. Contracts see the list.
+/// There is room for as many as a u32 counts; one more is answered as want of memory.
 #[derive(Drop)]
 pub struct Captured<'t> {
     words: Vec<&'t HogText>,

@@ -17,6 +17,7 @@ use std::alloc::{AllocError, Global};
 use std::marker::Model;
 
 /// The names of the locals, where a hidden one has none, and of the captured variables. Contracts see the locals nearest first.
+/// There is room for as many locals as a u32 counts; one more is answered as want of memory.
 #[derive(Drop)]
 pub struct Frame<'t> {
     /// From the base.

@@ -10,6 +10,8 @@ mod declared;
 mod finder;
 mod frame;
 mod takes;
+#[cfg(test)]
+mod tests;
 mod words;
 
 pub use captured::Captured;
