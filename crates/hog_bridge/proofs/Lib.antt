@@ -27,3 +27,4 @@ pub mod Rounds
 pub mod Copying
 pub mod Statements
 pub mod Grows
+pub mod Codes
