@@ -28,3 +28,4 @@ pub mod Copying
 pub mod Statements
 pub mod Grows
 pub mod Codes
+pub mod Sorted
