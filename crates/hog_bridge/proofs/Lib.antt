@@ -29,3 +29,4 @@ pub mod Statements
 pub mod Grows
 pub mod Codes
 pub mod Sorted
+pub mod Firsts
