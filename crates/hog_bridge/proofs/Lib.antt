@@ -30,3 +30,4 @@ pub mod Grows
 pub mod Codes
 pub mod Sorted
 pub mod Firsts
+pub mod Tasks
