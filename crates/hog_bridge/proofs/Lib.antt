@@ -34,3 +34,7 @@ pub mod Members
 pub mod Agreement
 pub mod Literals
 pub mod Counts
+pub mod Codes
+pub mod Sorted
+pub mod Firsts
+pub mod Tasks

@@ -39,7 +39,7 @@ use Rattle.hog_bridge.proofs.Rounds.{over_runs, has_loop, has_stms, pb, pe, in_r
 use Rattle.hog_bridge.proofs.Copying.{copied_runs}
 use Rattle.hog_bridge.proofs.Expressions.{one_end, exp_runs}
 
-option_name_pops : (s : OptionStm) (frees : List Word) → ArePops (count_name (option_name_by s)) (option_name_pop s frees)
+pub option_name_pops : (s : OptionStm) (frees : List Word) → ArePops (count_name (option_name_by s)) (option_name_pop s frees)
 option_name_pops NoneStm frees = tt
 option_name_pops (SomeStm s) frees = name_pops s frees
 

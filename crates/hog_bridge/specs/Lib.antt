@@ -2,3 +2,4 @@ pub mod ExamplePrograms
 pub mod Examples
 pub mod Steady
 pub mod Counts
+pub mod Laws
