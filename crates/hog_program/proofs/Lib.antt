@@ -2,3 +2,4 @@ pub mod Refusals
 pub mod Preludes
 pub mod PreludeTexts
 pub mod Wholes
+pub mod Spelled
