@@ -225,3 +225,57 @@ module _ (program : Stms) (good : StmsOk [] program) (lits : literals_of_code (c
             subst (λ s. WaitsAlike (outcome program globals replies) s) (sym (machine_is k))
             (subst (λ z. WaitsAlike z (run k)) (sym outcome_is) (waits k (ap (λ (s : State). s.mode) (sym (machine_is k)) ∙ h) (ap (λ (s : State). s.replies) (sym (machine_is k)) ∙ r)));
       }
+
+      -- the bound
+
+      less_one : (m : Mode) (n : ℕ) → n ≤ psi_in m n + 1
+      less_one Running n = omega arith
+      less_one Waiting n = omega arith
+      less_one (Ended e) n = omega arith
+
+      no_more : (m : Mode) (n : ℕ) → psi_in m n ≤ n
+      no_more Running n = omega arith
+      no_more Waiting n = omega arith
+      no_more (Ended e) n = omega arith
+
+      total : (k t n : ℕ) → k + (max_turns - t) * suc n ≤ 1 + (n + max_turns * suc n) → suc k ≤ 1 + (t + 1) * (n + 1)
+      total k t n h =
+          ⊎_elim
+          (λ lt.
+              let e : t ≡ max_turns + (t - max_turns) = omega arith in
+              let e2 = ap (λ x. x * suc n) e in
+              let e3 : (max_turns + (t - max_turns)) * suc n ≡ max_turns * suc n + (t - max_turns) * suc n = omega arith in
+              let e4 : (t + 1) * (n + 1) ≡ t * suc n + suc n = omega arith in
+              omega (arith, h, e2, e3, e4))
+          (λ le.
+              let e : (max_turns - t) + t ≡ max_turns = omega arith in
+              let e2 = ap (λ x. x * suc n) e in
+              let e3 : ((max_turns - t) + t) * suc n ≡ (max_turns - t) * suc n + t * suc n = omega arith in
+              let e4 : (t + 1) * (n + 1) ≡ t * suc n + suc n = omega arith in
+              omega (arith, h, e2, e3, e4))
+          (cases_lt max_turns t)
+
+      at_first : (o : Outcome FunCell Val) → psi g (started replies o) ≤ left code 0 + max_turns * suc (left code 0)
+      unfolding given
+      at_first (op.Gives v h units) = let l = left_later code 0 2 (omega arith) in omega (arith, l)
+      at_first (op.Throws kind) = let l = left_later code 0 2 (omega arith) in omega (arith, l)
+      at_first op.Spends = let l = left_later code 0 2 (omega arith) in omega (arith, l)
+
+      over : (e : Option End) (s : State) → EndIs e s → IsOver s
+      over (Some e) s m = subst (λ z. is_over_in z s.replies) (sym m) tt
+      over None s m = subst (λ z. is_over_in z s.replies) (sym m.0) (subst (λ z. is_over_in Waiting z) (sym m.1) tt)
+
+      pub bounded : (k : ℕ) → IsDefined (code_of program) globals replies (suc k) → suc k ≤ 1 + ((machine (code_of program) globals replies k).turns + 1) * (operations (code_of program) + 1)
+      unfolding given
+      bounded k def =
+          let f = finishes in
+          let s = run k in
+          let within : k ≤ f.comes.count = ⊎_elim
+              (λ lt. absurd (def f.comes.count (omega arith) (subst IsOver (sym (machine_is f.comes.count ∙ f.comes.by)) (over (shows o0).end f.last f.end))))
+              (λ le. le) (cases_lt f.comes.count k) in
+          let p = f.comes.paid k within in
+          let a = at_first (first_cells texts globals) in
+          let b = less_one s.mode (phi code s.frames + (max_turns - s.turns) * suc (left code 0)) in
+          let t = total k s.turns (left code 0) (omega (arith, p, a, b)) in
+          subst (λ z. suc k ≤ 1 + (z.turns + 1) * (operations (code_of program) + 1)) (sym (machine_is k))
+          (subst (λ z. suc k ≤ 1 + (s.turns + 1) * (z + 1)) (code_counted (code_of program)) t)
