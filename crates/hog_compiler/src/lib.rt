@@ -4,3 +4,5 @@
 //! which is what is used above.
 //! No machine is cited.
 #![tactic(auto)]
+
+mod draft;
