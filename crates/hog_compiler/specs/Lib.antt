@@ -1,3 +1,4 @@
 pub mod Pieces
 pub mod Code
+pub mod Adds
 pub mod Examples

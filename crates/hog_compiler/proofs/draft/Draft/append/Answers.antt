@@ -13,5 +13,4 @@ invariant_of-self-2 c =
     omega (arith, same, c.self.invariant, c.other.invariant, c.in_ok-elements.ensures)
 
 pub returns : goal.returns
-returns c =
-    ap ops_of c.in_ok-append.ensures.items ∙ ops_of-append c.self.inside.ops.items c.other.inside.ops.items ∙ ap₂ (λ os qs. os ⊕ qs) c.self.view_is c.other.view_is
+returns c = record { is = ap ops_of c.in_ok-append.ensures.items ∙ ops_of-append c.self.inside.ops.items c.other.inside.ops.items ∙ ap₂ (λ os qs. os ⊕ qs) c.self.view_is c.other.view_is }

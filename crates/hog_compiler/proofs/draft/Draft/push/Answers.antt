@@ -13,5 +13,4 @@ invariant_of-self-2 c =
     omega (arith, same, c.self.invariant, c.in_ok-elements.ensures, c.len.ensures)
 
 pub returns : goal.returns
-returns c =
-    ap ops_of c.in_ok-push.ensures.items ∙ ops_of-append c.self.inside.ops.items (c.args.op ∷ []) ∙ ap (λ os. os ⊕ one (op_of c.args.op)) c.self.view_is
+returns c = record { is = ap ops_of c.in_ok-push.ensures.items ∙ ops_of-append c.self.inside.ops.items (c.args.op ∷ []) ∙ ap (λ os. os ⊕ one (op_of c.args.op)) c.self.view_is }
