@@ -1,2 +1,3 @@
 mod Joins
 pub mod Fine
+pub mod FineLoops
