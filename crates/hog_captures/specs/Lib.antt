@@ -1,2 +1,3 @@
 pub mod Frees
 pub mod Frames
+pub mod View
