@@ -30,7 +30,7 @@ jump_may : (d : ℤ) → may_lead 39 d ≡ true
 jump_may (pos n) = refl
 jump_may (negsuc n) = refl
 
-any_count : (n : ℕ) → nat_le 0 n ≡ true
+pub any_count : (n : ℕ) → nat_le 0 n ≡ true
 any_count n = grind (arith, nat_tests)
 
 first_place : (os : Ops) → is_place os 0 ≡ true
