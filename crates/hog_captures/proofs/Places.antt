@@ -4,23 +4,33 @@ use Rattle.std.specs.Borrow.{Bor}
 use Rattle.std.proofs.lemmas.List.{map-append, take_more, take-append-drop, drop_more, reverse-append, length-reverse, length-map, length-take-le}
 use Rattle.std.proofs.Math.Seq.{drop-append_seam}
 use Rattle.hog_tree.specs.Plain.{Word}
-use Rattle.hog_captures.specs.Frames.{Frame, find_up, next_index, with_local, with_hidden, with_params}
-use Rattle.hog_captures.specs.View.{name_of, names_of, words_at}
+use Rattle.hog_captures.specs.Frames.{Frame, find_local, find_up, next_index, capture, captures_of, with_local, with_hidden, with_params}
+use Rattle.hog_captures.specs.View.{name_of, names_of, words_at, last_first}
 
--- locals after others
-names_of-append : (xs ys : List (Option (Bor Word))) → names_of (xs ++ ys) ≡ names_of ys ++ names_of xs
-names_of-append xs ys = ap reverse (map-append name_of xs ys) ∙ reverse-append (map name_of xs) (map name_of ys)
+-- lists that are seen from their end
+module _ {X Y : Type 0} (g : X → Y) where
+  abbrev turned : List X → List Y
+  turned xs = reverse (map g xs)
 
-length-names_of : (xs : List (Option (Bor Word))) → length (names_of xs) ≡ length xs
-length-names_of xs = length-reverse (map name_of xs) ∙ length-map xs name_of
+  turned-append : (xs ys : List X) → turned (xs ++ ys) ≡ turned ys ++ turned xs
+  turned-append xs ys = ap reverse (map-append g xs ys) ∙ reverse-append (map g xs) (map g ys)
 
--- the first of them are those that are left where the nearest go
+  length-turned : (xs : List X) → length (turned xs) ≡ length xs
+  length-turned xs = length-reverse (map g xs) ∙ length-map xs g
+
+  -- the first of them are those that are left where the last go
+  turned-take : (n : ℕ) (xs : List X) → turned (take n xs) ≡ drop (length (turned xs) - n) (turned xs)
+  turned-take n xs =
+      let split : turned (drop n xs) ++ turned (take n xs) ≡ turned xs = sym (turned-append (take n xs) (drop n xs)) ∙ ap turned (take-append-drop n xs) in
+      let long : length (turned (drop n xs)) ≡ length (turned xs) - n =
+      length-turned (drop n xs) ∙ length-drop n xs ∙ ap (λ m. m - n) (sym (length-turned xs)) in
+      sym (drop-append_seam (turned (drop n xs)) (turned (take n xs))) ∙ ap (λ m. drop m (turned (drop n xs) ++ turned (take n xs))) long ∙ ap (drop (length (turned xs) - n)) split
+
 pub names_of-take : (n : ℕ) (xs : List (Option (Bor Word))) → names_of (take n xs) ≡ drop (length (names_of xs) - n) (names_of xs)
-names_of-take n xs =
-    let split : names_of (drop n xs) ++ names_of (take n xs) ≡ names_of xs = sym (names_of-append (take n xs) (drop n xs)) ∙ ap names_of (take-append-drop n xs) in
-    let long : length (names_of (drop n xs)) ≡ length (names_of xs) - n =
-    length-names_of (drop n xs) ∙ length-drop n xs ∙ ap (λ m. m - n) (sym (length-names_of xs)) in
-    sym (drop-append_seam (names_of (drop n xs)) (names_of (take n xs))) ∙ ap (λ m. drop m (names_of (drop n xs) ++ names_of (take n xs))) long ∙ ap (drop (length (names_of xs) - n)) split
+names_of-take = turned-take name_of
+
+pub last_first-take : (n : ℕ) (xs : List (Bor Word)) → last_first (take n xs) ≡ drop (length (last_first xs) - n) (last_first xs)
+last_first-take = turned-take (λ w. w.now)
 
 -- what is left where the nearest go
 pub drop-front : {X : Type 0} (xs ys : List X) (n : ℕ) → n ≡ length ys → drop (length (xs ++ ys) - n) (xs ++ ys) ≡ ys
@@ -40,10 +50,6 @@ hidden_before (suc n) fr = ap (with_local None) (hidden_before n fr)
 pub params_more : (ps : List Word) (p : Word) (locals : List (Option Word)) → with_params (ps ++ p ∷ []) locals ≡ Some p ∷ with_params ps locals
 params_more [] p locals = refl
 params_more (q ∷ ps) p locals = params_more ps p (Some q ∷ locals)
-
--- one more local
-pub names_of-snoc : (xs : List (Option (Bor Word))) (x : Option (Bor Word)) → names_of (xs ++ x ∷ []) ≡ name_of x ∷ names_of xs
-names_of-snoc xs x = names_of-append xs (x ∷ [])
 
 next_none : (o : Option ℕ) → next_index o ≡ None → o ≡ None
 next_none None h = refl
@@ -78,3 +84,16 @@ up_found xs i x w lt is none found =
     let hit = find_up-hit (words_at (take i xs)) (words_at (drop (i + 1) xs)) x.now w none found in
     let long : length (words_at (take i xs)) ≡ i = length-map (take i xs) (λ w. w.now) ∙ length-take-le i xs (omega (arith, lt)) in
     sym (sym whole ∙ one ∙ hit ∙ ap Some long)
+
+-- one more captured variable
+captures-snoc : (fr : Frame) (ws : List Word) (w : Word)
+    → captures_of fr (ws ++ w ∷ []) ≡ captures_of fr ws ++ capture (find_local fr.locals w) (find_up fr.ups w) ∷ []
+captures-snoc fr [] w = refl
+captures-snoc fr (v ∷ ws) w = ap (λ r. capture (find_local fr.locals v) (find_up fr.ups v) ∷ r) (captures-snoc fr ws w)
+
+pub captures_more : (fr : Frame) (xs : List (Bor Word)) (i : ℕ) (x : Bor Word) → i < length xs → x ≡ get_or xs i x
+    → captures_of fr (words_at (take (i + 1) xs)) ≡ captures_of fr (words_at (take i xs)) ++ capture (find_local fr.locals x.now) (find_up fr.ups x.now) ∷ []
+captures_more fr xs i x lt is =
+    ap (λ ys. captures_of fr (words_at ys)) (take_more xs i x lt ∙ ap (λ y. take i xs ++ y ∷ []) (sym is))
+    ∙ ap (captures_of fr) (map-append (λ y. y.now) (take i xs) (x ∷ []))
+    ∙ captures-snoc fr (words_at (take i xs)) x.now

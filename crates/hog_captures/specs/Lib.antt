@@ -1,3 +1,4 @@
 pub mod Frees
 pub mod Frames
+pub mod Finding
 pub mod View

@@ -5,11 +5,12 @@ ghost use Rattle.std.specs.Option.{option_map};
 ghost use Rattle.hog_tree.specs.Plain.{Word};
 ghost use Rattle.hog_tree.specs.View.{words_of, option_word_of, stm_of, option_stm_from};
 ghost use Rattle.hog_captures.specs.Frees.{name_by, option_name_by};
-ghost use Rattle.hog_captures.specs.Frames.{Frame as Plain, first_frame, find_local, find_up, knows, with_local, with_name, with_hidden, inner_frame};
+ghost use Rattle.hog_captures.specs.Frames.{Frame as Plain, first_frame, find_local, find_up, capture, knows, with_local, with_name, with_hidden, inner_frame};
 ghost use Rattle.hog_captures.specs.View.{name_of, names_of};
 
 use crate::captured::Captured;
 use crate::declared::declared_by;
+use hog_ops::Capture;
 use hog_tree::tree::{Named, Names, Stmt};
 use hog_value::HogText;
 use std::alloc::{AllocError, Global};
@@ -111,6 +112,19 @@ impl<'t> Frame<'t> {
         ensures { result ≡ knows self.now word.now }
     {
         self.local(word).is_some() || self.up(word).is_some()
+    }
+
+    /// How a function takes the variable of this name. Takes no memory.
+    pub(crate) fn capture(&self, word: &HogText) -> Capture
+        ensures { result ≡ capture (find_local self.now.locals word.now) (find_up self.now.ups word.now) }
+    {
+        if let Some(index) = self.local(word) {
+            return Capture { local: true, index };
+        }
+        Capture {
+            local: false,
+            index: self.up(word).unwrap_or(0),
+        }
     }
 
     fn put(&mut self, name: Option<&'t HogText>) -> Result<(), AllocError>

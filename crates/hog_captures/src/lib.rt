@@ -7,8 +7,12 @@
 
 mod captured;
 mod declared;
+mod finder;
 mod frame;
+mod takes;
+mod words;
 
 pub use captured::Captured;
 pub use declared::declared_by;
 pub use frame::Frame;
+pub use takes::{for_takes, fun_takes, stmts_take};
