@@ -1,3 +1,5 @@
 pub mod Pieces
 pub mod Code
+pub mod Adds
+pub mod Nesting
 pub mod Examples

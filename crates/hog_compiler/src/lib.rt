@@ -4,3 +4,6 @@
 //! which is what is used above.
 //! No machine is cited.
 #![tactic(auto)]
+
+mod draft;
+mod pieces;

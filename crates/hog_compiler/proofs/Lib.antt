@@ -1,0 +1,4 @@
+mod Joins
+pub mod Fine
+pub mod FineLoops
+pub mod FineCode
