@@ -3,3 +3,4 @@ pub mod Preludes
 pub mod PreludeTexts
 pub mod Wholes
 pub mod Spelled
+pub mod Nesting
