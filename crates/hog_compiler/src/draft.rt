@@ -61,6 +61,11 @@ impl Draft {
         }
     }
 
+    /// Where its memory comes from. Takes no memory.
+    pub fn allocator(&self) -> Global {
+        *self.ops.allocator()
+    }
+
     /// How many elements the operations take. Takes no memory.
     pub fn span(&self) -> u32
         ensures { result ≡ span self.now }

@@ -1,16 +1,23 @@
 //! The pieces of which code is made.
 
-ghost use Rattle.std.specs.Prelude.{◌≡◌, ◌+◌, pos, neg_ℤ, OnOk};
+ghost use Rattle.std.specs.Prelude.{◌≡◌, ◌+◌, ◌≤◌, pos, neg_ℤ, true, None, IfOk, OnOk};
+ghost use Rattle.std.specs.Option.{option_copied};
 ghost use Rattle.hog_ops.specs.Plain.{NoOp};
 ghost use Rattle.hog_ops.specs.View.{op_of};
+ghost use Rattle.hog_ops.specs.Valid.{allowed, lost, height};
+ghost use Rattle.hog_tree.specs.View.{words_of, exp_of};
+ghost use Rattle.hog_captures.specs.Frames.{find_local, find_up};
+ghost use Rattle.hog_compiler.specs.Code.{called_native};
 ghost use Rattle.hog_compiler.specs.Adds.{Adds};
-ghost use Rattle.hog_compiler.specs.Pieces.{one, truth_op, operator_op, is_left_first, coalesce_code, native_code, return_null, if_code, if_else_code, loop_code, try_code};
+ghost use Rattle.hog_compiler.specs.Pieces.{truth_op, read_code, write_op, operator_op, is_left_first, coalesce_code, native_code, return_null, fun_code, lambda_name, if_code, if_else_code, loop_code, try_code};
 
 use crate::draft::Draft;
-use hog_ops::Op;
-use hog_tree::tree::BinaryOp;
-use hog_value::Native;
-use std::alloc::AllocError;
+use hog_captures::Frame;
+use hog_ops::{CallableOp, Captures, Op};
+use hog_tree::tree::{BinaryOp, Expr, Names};
+use hog_value::{HogText, Native};
+use std::alloc::{AllocError, Global};
+use std::convert::AsStr;
 
 // A distance over so many elements.
 fn over(elements: u32, more: u32) -> i64
@@ -59,6 +66,62 @@ pub fn is_left_first(op: BinaryOp) -> bool
     ensures { result ≡ is_left_first op }
 {
     matches!(op, BinaryOp::Or | BinaryOp::And)
+}
+
+/// A count as operations have it: 2^32 of anything have no place in memory.
+pub fn counted(len: usize) -> Result<u32, AllocError>
+    ensures { IfOk result (λ n. n ≡ len) }
+{
+    match u32::try_from(len) {
+        Ok(count) => Ok(count),
+        Err(_) => Err(AllocError),
+    }
+}
+
+/// The word of a native that is called: one that the frame doesn't know.
+pub fn native_called<'e>(frame: &Frame, callee: &'e Expr) -> Option<&'e HogText>
+    ensures { option_copied result ≡ called_native frame.now (exp_of callee.now) }
+{
+    match callee {
+        Expr::Name(name) if !frame.knows(&name.word) => Some(&name.word),
+        _ => None,
+    }
+}
+
+/// The name of functions that have none.
+pub fn lambda_name(alloc: Global) -> Result<HogText, AllocError>
+    ensures { IfOk result (λ name. name ≡ lambda_name) }
+{
+    Ok(HogText::from_string(String::from_str(alloc, "lambda")?))
+}
+
+/// The value of a word.
+#[tactic(auto, using(hog_ops::specs::Join::join_assoc, hog_ops::specs::Join::join_none))]
+pub fn read(out: &mut Draft, frame: &Frame, word: &HogText) -> Result<(), AllocError>
+    ensures { OnOk result (Adds out.old out.new
+        (read_code (find_local frame.now.locals word.now) (find_up frame.now.ups word.now) word.now)) }
+{
+    if let Some(index) = frame.local(word) {
+        return out.push(Op::GetLocal(index));
+    }
+    if let Some(index) = frame.up(word) {
+        return out.push(Op::GetUpvalue(index));
+    }
+    out.push(Op::Str(word.copy()?))?;
+    out.push(Op::GetGlobal(1))
+}
+
+/// The operation that gives a word a new value.
+pub fn write(frame: &Frame, word: &HogText) -> Op
+    ensures { op_of result ≡ write_op (find_local frame.now.locals word.now) (find_up frame.now.ups word.now) }
+{
+    if let Some(index) = frame.local(word) {
+        return Op::SetLocal(index);
+    }
+    match frame.up(word) {
+        Some(index) => Op::SetUpvalue(index),
+        None => Op::Pop,
+    }
 }
 
 #[tactic(auto, using(hog_ops::specs::Join::join_assoc, hog_ops::specs::Join::join_none))]
@@ -121,6 +184,29 @@ impl Draft {
             Some(native) if native.takes(count) => self.push(Op::CallGlobal(native, count)),
             _ => Ok(()),
         }
+    }
+
+    /// A function, made.
+    pub fn function(
+        &mut self,
+        name: HogText,
+        params: &Names,
+        captures: Captures,
+        body: Draft,
+    ) -> Result<(), AllocError>
+        requires operands { allowed body ≡ true }
+        requires distances { lost 0 body ≡ None }
+        requires nesting { height body ≤ 1000 }
+        ensures { OnOk result (Adds self.old self.new (fun_code name (words_of params.now) captures body)) }
+    {
+        let params = counted(params.items().len())?;
+        let body = body.into_code();
+        self.push(Op::Callable(CallableOp {
+            name,
+            params,
+            body,
+            captures,
+        }))
     }
 
     /// The return of null.
