@@ -12,4 +12,4 @@ mod pieces;
 mod pops;
 mod program;
 
-pub use program::compile;
+pub use program::{compile, compile_tree};

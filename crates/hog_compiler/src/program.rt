@@ -10,16 +10,25 @@ use crate::forms::stmts;
 use hog_captures::Frame;
 use hog_ops::Code;
 use hog_scope::Scoped;
+use hog_tree::tree::Tree;
 use std::alloc::{AllocError, Global};
 
-/// The code of a program whose names are resolved. Functions stand in one another no more than a program is high.
+/// The code of a program. Functions stand in one another no more than a program is high.
+pub fn compile_tree(alloc: Global, tree: &Tree) -> Result<Code, AllocError>
+    requires { stms_nesting (tree_of tree.now) ≤ deepest }
+    ensures { IfOk result (λ code. code ≡ code_of (tree_of tree.now)) }
+{
+    let mut frame = Frame::first(alloc);
+    let mut out = Draft::new(alloc);
+    stmts(&mut out, &mut frame, &tree.stmts)?;
+    out.return_null()?;
+    Ok(out.into_code())
+}
+
+/// The code of a program whose names are resolved.
 pub fn compile(alloc: Global, scoped: &Scoped) -> Result<Code, AllocError>
     requires { stms_nesting (tree_of scoped.now.tree) ≤ deepest }
     ensures { IfOk result (λ code. code ≡ code_of (tree_of scoped.now.tree)) }
 {
-    let mut frame = Frame::first(alloc);
-    let mut out = Draft::new(alloc);
-    stmts(&mut out, &mut frame, &scoped.tree().stmts)?;
-    out.return_null()?;
-    Ok(out.into_code())
+    compile_tree(alloc, scoped.tree())
 }

@@ -8,9 +8,10 @@ use Rattle.hog_grammar.specs.Terminal as k
 use Rattle.hog_grammar.specs.Forms.{Listing, Others, Governed}
 use Rattle.hog_grammar.specs.Pieces.{Lexed}
 use Rattle.hog_grammar.specs.Spelling.{Bare, items, entries, OfParts, OfBody, OfStm, OfStms, OnlyOne, OfElse, Declared, Returned, Condition, Start, Step, Spells}
-use Rattle.hog_compiler.specs.Nesting.{exp_nesting, exps_nesting, parts_nesting, pairs_nesting, body_nesting, stm_nesting, stms_nesting, option_exp_nesting, option_stm_nesting, option_stms_nesting}
+use Rattle.hog_compiler.specs.Nesting.{deepest, exp_nesting, exps_nesting, parts_nesting, pairs_nesting, body_nesting, stm_nesting, stms_nesting, option_exp_nesting, option_stm_nesting, option_stms_nesting}
 use Rattle.hog_program.specs.Prelude.{array_map, array_filter, array_exists, prelude, mentions, placed, with_prelude}
 use Rattle.hog_program.specs.Build.{IsBuilt}
+use Rattle.hog_program.specs.Source.{IsProgram}
 
 mutual
   bare_low : (x : Exp) (ts : List Terminal) (h : ℕ) → Bare x ts h → exp_nesting x ≤ h
@@ -80,7 +81,7 @@ mutual
       omega (arith, stms_low b s.part.first.inner (k.CloseBrace ∷ ((k.Catch ∷ k.Open ∷ k.Word w ∷ k.Close ∷ []) ++ (s.part.right ++ rest))) s.part.first.low s.part.first.part, s.part.first.height, stms_low c s.part.second.inner (k.CloseBrace ∷ rest) s.part.second.low s.part.second.part, s.part.second.height, s.part.height, s.height)
   stm_low (Block b) ts rest h s = omega (arith, stms_low b s.inner (k.CloseBrace ∷ rest) s.low s.part, s.height)
 
-  stms_low : (ss : Stms) (ts rest : List Terminal) (h : ℕ) → OfStms ss ts rest h → stms_nesting ss ≤ h
+  pub stms_low : (ss : Stms) (ts rest : List Terminal) (h : ℕ) → OfStms ss ts rest h → stms_nesting ss ≤ h
   stms_low Done ts rest h s = omega arith
   stms_low (Then x ss) ts rest h s = omega (arith, stm_low x s.left (s.right ++ rest) s.low s.first, stms_low ss s.right rest s.other s.second, s.height)
 
@@ -165,10 +166,13 @@ whole_low c program = by (list_any (λ (f : Word × Stm). mentions c f.0) prelud
         (placed_low (mentions c (codes "arrayExists")) array_exists (Then (Block program) Done) n (omega arith) (omega arith)))
     by false = omega arith
 
--- a source that is built
-pub built_low : (text : List ℕ) (whole : Stms) → IsBuilt text whole → stms_nesting whole ≤ 101
+-- a source that is a program, and one that is built
+pub program_low : (text : List ℕ) (tree : Stms) → IsProgram text tree → stms_nesting tree ≤ deepest
+program_low text tree p = omega (arith, stms_low tree (terminals text p.list) [] p.height p.spelled, p.low)
+
+pub built_low : (text : List ℕ) (whole : Stms) → IsBuilt text whole → stms_nesting whole ≤ deepest
 built_low text whole b =
     let p = b.source.is in
     let c : Lexed = record { text = text; list = p.list } in
-    subst (λ w. stms_nesting w ≤ 101) (sym b.source.is_whole)
+    subst (λ w. stms_nesting w ≤ deepest) (sym b.source.is_whole)
     (omega (arith, whole_low c b.source.program, stms_low b.source.program (terminals text p.list) [] p.height p.spelled, p.low))

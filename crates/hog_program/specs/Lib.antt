@@ -3,3 +3,4 @@ pub mod Stops
 pub mod Prelude
 pub mod Build
 pub mod Placing
+pub mod Program

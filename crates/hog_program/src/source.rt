@@ -1,6 +1,7 @@
 //! Reading the tree of a source.
 
 ghost use Rattle.std.specs.Prelude.{◌≡◌, ◌≢◌, ◌≤◌, ◌*◌, ℕ, List, length, IfOk, Err};
+ghost use Rattle.hog_compiler.specs.Nesting.{deepest, stms_nesting};
 ghost use Rattle.hog_tree.specs.Count.{of_stms};
 ghost use Rattle.hog_tree.specs.Plain.{Stms};
 ghost use Rattle.hog_tree.specs.View.{tree_of};
@@ -23,6 +24,7 @@ const MOST_BYTES: usize = 16_384;
 /// both (`program_or_none`), so each refusal comes exactly where it should, want of memory aside.
 pub fn read_tree(alloc: Global, source: &[u8]) -> Result<Tree, BuildStop>
     ensures program { IfOk result (λ tree. IsProgram source.now (tree_of tree)) }
+    ensures low { IfOk result (λ tree. stms_nesting (tree_of tree) ≤ deepest) }
     ensures refused { (stop : Stop) → result ≡ Err stop → stop ≢ BuildStop.OutOfMemory
         → IsNone source.now stop }
 
@@ -42,6 +44,7 @@ pub fn read_tree(alloc: Global, source: &[u8]) -> Result<Tree, BuildStop>
 /// (`built_or_unbuilt`).
 pub fn read_whole(alloc: Global, source: &[u8]) -> Result<Tree, BuildStop>
     ensures whole { IfOk result (λ tree. IsBuilt source.now (tree_of tree)) }
+    ensures low { IfOk result (λ tree. stms_nesting (tree_of tree) ≤ deepest) }
     ensures unbuilt { (stop : Stop) → result ≡ Err stop → stop ≢ BuildStop.OutOfMemory
         → IsUnbuilt source.now stop }
 {
