@@ -7,7 +7,7 @@ use Rattle.hog_ops.specs.Plain.{Op, Ops, NoOp, MoreOp, Callable, Str}
 use Rattle.hog_ops.specs.Table.{size, span}
 use Rattle.vm_frames.specs.State.{Slot, Begins, BodyEnds, Operand, op_slots, slots, code_slots, header}
 use Rattle.vm_frames.specs.Course.{op_texts, texts}
-use Rattle.hog_bridge.specs.Counts.{op_count, operations}
+use Rattle.hog_bridge.specs.Laws.{op_operations, operations}
 use Rattle.hog_bridge.proofs.Words.{In, in_left, in_right}
 use Rattle.hog_bridge.proofs.Ahead.{HasAt, InnerAt, left, weight}
 
@@ -84,7 +84,7 @@ none_begin zero = refl
 none_begin (suc k) = let e = none_begin k in omega arith
 
 mutual
-  op_counted : (o : Op) → left (op_slots o) 0 ≡ op_count o
+  op_counted : (o : Op) → left (op_slots o) 0 ≡ op_operations o
   op_counted (Callable name params body captures) =
       let tail = BodyEnds ∷ replicate (1 + (length captures + length captures)) Operand in
       let a = left-append (slots body) tail in

@@ -33,9 +33,9 @@ pub mod Grows
 pub mod Members
 pub mod Agreement
 pub mod Literals
-pub mod Counts
 pub mod Codes
 pub mod Sorted
 pub mod Firsts
 pub mod Tasks
 pub mod Runs
+pub mod Whole

@@ -22,8 +22,7 @@ use Rattle.hog_meaning.specs.Program.{Shows, shows, texts_in, first_cells, run_f
 use Rattle.vm_frames.specs.State.{Slot, code_slots, Running, Waiting, Ended, Mode, State}
 use Rattle.vm_frames.specs.Step.{step, step_in, take_reply}
 use Rattle.vm_frames.specs.Course.{literals_of_code, started, fixed_by, steps, machine, IsOver, is_over_in, IsDefined}
-use Rattle.hog_bridge.specs.Counts.{operations}
-use Rattle.hog_bridge.specs.Laws.{HoldsTheSame, WaitsAlike, IsOnMeaning}
+use Rattle.hog_bridge.specs.Laws.{operations, HoldsTheSame, WaitsAlike, IsOnMeaning}
 use Rattle.hog_bridge.proofs.Words.{In, sub_same}
 use Rattle.hog_bridge.proofs.Resolved.{StmsOk}
 use Rattle.hog_bridge.proofs.Places.{Seat}
@@ -214,10 +213,6 @@ module _ (program : Stms) (good : StmsOk [] program) (lits : literals_of_code (c
           let q = is_last k (ap (λ x. step_in x g.fixed g.code (run k)) h ∙ ap (λ rs. take_reply rs (run k)) r) in
           alike o0 (run k) finishes.last q finishes.end finishes.wait h
 
-      over : (e : Option End) (s : State) → EndIs e s → IsOver s
-      over (Some e) s m = subst (λ z. is_over_in z s.replies) (sym m) tt
-      over None s m = subst (λ z. is_over_in z s.replies) (sym m.0) (subst (λ z. is_over_in Waiting z) (sym m.1) tt)
-
       pub on_meaning : IsOnMeaning program globals replies
       on_meaning = record {
         prefix = λ k.
@@ -229,9 +224,6 @@ module _ (program : Stms) (good : StmsOk [] program) (lits : literals_of_code (c
         waits = λ k h r.
             subst (λ s. WaitsAlike (outcome program globals replies) s) (sym (machine_is k))
             (subst (λ z. WaitsAlike z (run k)) (sym outcome_is) (waits k (ap (λ (s : State). s.mode) (sym (machine_is k)) ∙ h) (ap (λ (s : State). s.replies) (sym (machine_is k)) ∙ r)));
-        finishes =
-            let f = finishes in
-            (f.comes.count, subst IsOver (sym (machine_is f.comes.count ∙ f.comes.by)) (over (shows o0).end f.last f.end));
       }
 
       -- the bound
@@ -269,6 +261,10 @@ module _ (program : Stms) (good : StmsOk [] program) (lits : literals_of_code (c
       at_first (op.Throws kind) = let l = left_later code 0 2 (omega arith) in omega (arith, l)
       at_first op.Spends = let l = left_later code 0 2 (omega arith) in omega (arith, l)
 
+      over : (e : Option End) (s : State) → EndIs e s → IsOver s
+      over (Some e) s m = subst (λ z. is_over_in z s.replies) (sym m) tt
+      over None s m = subst (λ z. is_over_in z s.replies) (sym m.0) (subst (λ z. is_over_in Waiting z) (sym m.1) tt)
+
       pub bounded : (k : ℕ) → IsDefined (code_of program) globals replies (suc k) → suc k ≤ 1 + ((machine (code_of program) globals replies k).turns + 1) * (operations (code_of program) + 1)
       unfolding given
       bounded k def =
@@ -283,3 +279,10 @@ module _ (program : Stms) (good : StmsOk [] program) (lits : literals_of_code (c
           let t = total k s.turns (left code 0) (omega (arith, p, a, b)) in
           subst (λ z. suc k ≤ 1 + (z.turns + 1) * (operations (code_of program) + 1)) (sym (machine_is k))
           (subst (λ z. suc k ≤ 1 + (s.turns + 1) * (z + 1)) (code_counted (code_of program)) t)
+
+      -- it ends, or waits with all replies used
+      pub comes_to_rest : (k : ℕ) × IsOver (machine (code_of program) globals replies k)
+      unfolding given
+      comes_to_rest =
+          let f = finishes in
+          (f.comes.count, subst IsOver (sym (machine_is f.comes.count ∙ f.comes.by)) (over (shows o0).end f.last f.end))

@@ -1,18 +1,28 @@
 -- How the machine's course on the code of a program stands to what the program means, and how long it is at most.
-use Rattle.std.specs.Prelude.{◌≡◌, ℕ, suc, ◌+◌, ◌*◌, ◌≤◌, List, ◌++◌, [], Some, Result, Ok}
+use Rattle.std.specs.Prelude.{◌≡◌, ℕ, suc, ◌+◌, ◌*◌, ◌≤◌, List, ◌++◌, [], Some, Ok}
 use Rattle.hog_value.specs.declared.trace.TraceItem.{TraceItem}
 use Rattle.hog_value.specs.declared.trace.End.{End}
 use Rattle.hog_value.specs.Cells.{HeapOf, heap_map}
 use Rattle.hog_tree.specs.Plain.{Stms}
 use Rattle.hog_scope.specs.declared.item.Item.{Item}
 use Rattle.hog_scope.specs.Scopes.{items_of}
+use Rattle.hog_ops.specs.Plain.{Op, Ops, NoOp, MoreOp, Callable}
 use Rattle.hog_compiler.specs.Code.{code_of}
 use Rattle.hog_meaning.specs.World.{Reply, World, Got, Gives, Throws, Waits, Spends, Flow}
-use Rattle.hog_meaning.specs.Program.{Shows, outcome, meaning}
+use Rattle.hog_meaning.specs.Program.{outcome, meaning}
 use Rattle.vm_frames.specs.State.{State, Waiting, Ended}
 use Rattle.vm_frames.specs.Course.{machine, IsOver, IsDefined}
-use Rattle.hog_bridge.specs.Counts.{operations}
 use Rattle.hog_bridge.specs.Steady.{StmsSteady}
+
+-- how many operations a code has, those of its bodies too
+abbrev mutual
+  pub op_operations : Op → ℕ
+  op_operations (Callable name params body captures) = suc (operations body)
+  op_operations o = 1
+
+  pub operations : Ops → ℕ
+  operations NoOp = 0
+  operations (MoreOp o os) = op_operations o + operations os
 
 -- what a function is, left out
 abbrev pub no_content : {F : Type 0} → F → Unit {0}
@@ -46,19 +56,22 @@ pub record IsOnMeaning (program : Stms) (globals : List ℕ) (replies : List Rep
   pub ended : (k : ℕ) (e : End) → (course program globals replies k).mode ≡ Ended e → meaning program globals replies ≡ record { trace = (course program globals replies k).trace; end = Some e }
   -- a wait at which all replies are used is the meaning's wait
   pub waits : (k : ℕ) → (course program globals replies k).mode ≡ Waiting → (course program globals replies k).replies ≡ [] → WaitsAlike (outcome program globals replies) (course program globals replies k)
-  -- and it comes to an end or to such a wait
-  pub finishes : (k : ℕ) × IsOver (course program globals replies k)
 
--- Every course on the code of a program whose names are without fault, and in which no step of a `for` declares a name, shows
--- exactly what the program means.
+-- The names of a program are without fault, and no step of a `for` declares one.
+pub record IsNamed (program : Stms) : Type 0 where
+  pub steady : StmsSteady program
+  pub items : List Item
+  pub resolved : items_of program ≡ Ok items
+
+-- every course on the code of a program whose names are right shows exactly what the program means
 abbrev pub CourseIsMeaning : Type 0
-CourseIsMeaning =
-    (program : Stms) (items : List Item) → StmsSteady program → items_of program ≡ Ok items
-    → (globals : List ℕ) (replies : List Reply) → IsOnMeaning program globals replies
+CourseIsMeaning = (program : Stms) → IsNamed program → (globals : List ℕ) (replies : List Reply) → IsOnMeaning program globals replies
 
--- A course that is defined at k operations has spent so many turns that k is at most 1 + (turns + 1) * (operations of the code + 1).
+-- a course that is defined at k operations has spent so many turns that k is at most 1 + (turns + 1) * (operations of the code + 1)
 abbrev pub CourseIsBounded : Type 0
-CourseIsBounded =
-    (program : Stms) (items : List Item) → StmsSteady program → items_of program ≡ Ok items
-    → (globals : List ℕ) (replies : List Reply) (k : ℕ) → IsDefined (code_of program) globals replies (suc k)
-    → suc k ≤ 1 + ((course program globals replies k).turns + 1) * (operations (code_of program) + 1)
+CourseIsBounded = (program : Stms) → IsNamed program → (globals : List ℕ) (replies : List Reply) (k : ℕ)
+    → IsDefined (code_of program) globals replies (suc k) → suc k ≤ 1 + ((course program globals replies k).turns + 1) * (operations (code_of program) + 1)
+
+-- every course ends, or waits with all replies used
+abbrev pub CourseRests : Type 0
+CourseRests = (program : Stms) → IsNamed program → (globals : List ℕ) (replies : List Reply) → (k : ℕ) × IsOver (course program globals replies k)

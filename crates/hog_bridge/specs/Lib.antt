@@ -1,5 +1,4 @@
 pub mod ExamplePrograms
 pub mod Examples
 pub mod Steady
-pub mod Counts
 pub mod Laws

@@ -1,15 +1,19 @@
 //! How the machine's course on the code of a program stands to what the program means. The functions do nothing: their
 //! clauses are the laws.
 
-ghost use Rattle.hog_bridge.specs.Laws.{CourseIsMeaning, CourseIsBounded};
+ghost use Rattle.hog_bridge.specs.Laws.{CourseIsMeaning, CourseIsBounded, CourseRests};
 
-/// At every number of operations the trace is a prefix of the meaning's; an end is the meaning's end; a wait with all
-/// replies used is the meaning's wait; and every course comes to an end or to such a wait.
+/// Every course on the code of a program whose names are right shows exactly what the program means.
 pub fn course_is_meaning()
     ensures { CourseIsMeaning }
 {}
 
-/// A course is no longer than the turns that it has spent allow.
+/// A course is so long at most, by the turns that it has spent and the operations of the code.
 pub fn course_is_bounded()
     ensures { CourseIsBounded }
+{}
+
+/// Every course ends, or waits with all replies used.
+pub fn course_rests()
+    ensures { CourseRests }
 {}

@@ -1,7 +1,7 @@
 //! Laws of programs and their sources. The functions do nothing: their clauses are the laws.
 
 ghost use Rattle.std.specs.Prelude.{◌≡◌, ℕ, List};
-ghost use Rattle.hog_bridge.specs.Steady.{StmsSteady};
+ghost use Rattle.hog_bridge.specs.Laws.{IsNamed};
 ghost use Rattle.hog_tree.specs.Plain.{Stms};
 ghost use Rattle.hog_program.specs.Build.{IsBuilt, IsUnbuilt};
 ghost use Rattle.hog_program.specs.Source.{IsProgram, IsNone, ReadsBack};
@@ -47,8 +47,7 @@ pub fn printed_reads_back()
     hog_printer::laws::reads_back();
 }
 
-/// In the whole program of a source no step of a `for` declares a name.
-#[tactic(auto, using(crate::proofs::Spelled::built_steady))]
-pub fn built_is_steady()
-    ensures { (source : List ℕ) (whole : Stms) → IsBuilt source whole → StmsSteady whole }
+/// The names of the whole program of a source are right, so the laws of its course hold for it.
+pub fn built_is_named()
+    ensures { (source : List ℕ) (whole : Stms) → IsBuilt source whole → IsNamed whole }
 {}

@@ -1,8 +1,5 @@
-use Rattle.hog_bridge.proofs.Literals.{same_literals}
-use Rattle.hog_bridge.proofs.Runs.{on_meaning}
-use Rattle.hog_bridge.proofs.Scopes.{scoped}
+use Rattle.hog_bridge.proofs.Whole.{is_meaning}
 use Rattle.hog_bridge.proofs.laws.course_is_meaning.Goals as goal
 
 pub returns : goal.returns
-returns c program items steady is globals replies =
-    on_meaning program (scoped program items steady is).ok (same_literals program items steady is) replies globals
+returns c = is_meaning
