@@ -1,5 +1,5 @@
 -- Pops of the locals of a block, from the last one on.
-use Rattle.std.proofs.Common.{◌≡◌, ◌<◌, ℕ, zero, suc, ◌+◌, List, [], ◌∷◌, length, drop, get_or, false, refl, sym, ap, ◌∙◌, subst, arith}
+use Rattle.std.proofs.Common.{◌≡◌, ◌<◌, ℕ, zero, suc, List, [], ◌∷◌, length, drop, get_or, false, sym, ap, ◌∙◌, arith}
 use Rattle.hog_ops.specs.Plain.{Ops, ◌⊕◌}
 use Rattle.hog_tree.specs.declared.tree.Stmt.{Stmt}
 use Rattle.hog_tree.specs.View.{stm_of, stms_from}

@@ -1,16 +1,11 @@
 -- Pieces of code are codes: their operands are allowed, and their distances lead to places of their own.
-use Rattle.std.proofs.Common.{◌≡◌, ◌≤◌, ℕ, zero, suc, ◌+◌, ◌&&◌, max, ℤ, pos, negsuc, neg_ℤ, ◌+ℤ◌, List, length, Bool, true, false, cond, Option, Some, None, refl, sym, ap, ap₂, ◌∙◌, arith}
-use Rattle.std.proofs.lemmas.Int.{ints}
-use Rattle.hog_value.specs.declared.native.Native.{Native}
-use Rattle.hog_value.specs.Natives.{takes_of}
-use Rattle.hog_ops.specs.declared.capture.Capture.{Capture}
+use Rattle.std.proofs.Common.{◌≡◌, ◌≤◌, ℕ, ◌+◌, ◌&&◌, pos, Bool, true, cond, Some, None, refl, sym, ap, ap₂, ◌∙◌, arith}
 use Rattle.hog_ops.specs.Plain as o
 use Rattle.hog_ops.specs.Plain.{Op, Ops, NoOp, MoreOp, ◌⊕◌}
 use Rattle.hog_ops.specs.Table.{size, span}
-use Rattle.hog_ops.specs.Valid.{op_allowed, allowed, op_height, height, is_place, is_place_of, or_then, op_lost, lost_in, lost}
-use Rattle.hog_ops.specs.Lost.{lost_none}
-use Rattle.hog_ops.specs.Join.{join_assoc, join_none, span-join, allowed-join, height-join, is_place-join, is_place-seam, lost_in-join, lost-within, lost-join}
-use Rattle.hog_compiler.specs.Pieces.{one, coalesce_code, native_code, if_code, if_else_code, loop_code, try_code}
+use Rattle.hog_ops.specs.Valid.{op_allowed, allowed, op_height, height, is_place, or_then, op_lost, lost_in, lost}
+use Rattle.hog_ops.specs.Join.{join_assoc, join_none, span-join, allowed-join, height-join, is_place-join, is_place-seam, lost-within, lost-join}
+use Rattle.hog_compiler.specs.Pieces.{one, coalesce_code, if_code, if_else_code, try_code}
 
 -- a code by itself, in which at most so many bodies stand in one another
 pub record Fine (n : ℕ) (os : Ops) : Type 0 where

@@ -1,11 +1,11 @@
 -- The code of each form is a code by itself, in which at most so many bodies stand in one another as functions in the form.
-use Rattle.std.proofs.Common.{◌≡◌, ◌≤◌, ◌<◌, ℕ, zero, suc, ◌+◌, max, pos, List, [], ◌∷◌, ◌++◌, length, Bool, true, false, cond, Option, Some, None, refl, arith}
+use Rattle.std.proofs.Common.{◌≤◌, ℕ, ◌+◌, pos, List, [], ◌++◌, length, true, false, Option, Some, None, refl, arith}
 use Rattle.hog_value.specs.declared.native.Native.TheVariants as native
 use Rattle.hog_value.specs.Natives.{native_named}
 use Rattle.hog_ops.specs.Plain as o
 use Rattle.hog_ops.specs.Plain.{Op, Ops, NoOp, MoreOp, ◌⊕◌}
 use Rattle.hog_scope.specs.Words.{count_of}
-use Rattle.hog_tree.specs.Plain.{Word, Exp, Exps, Parts, Pairs, Body, Stm, Stms, OptionExp, OptionStm, OptionStms, Int, Truth, Null, Text, Template, Name, Array, Dict, Neg, Not, Binary, Coalesce, Prop, PropNullish, Index, Call, Lambda, NoExp, MoreExp, NoPart, MoreText, MoreHole, NoPair, MorePair, OneExp, ManyStms, Let, Assign, Do, Return, Throw, If, While, For, ForIn, Fun, Try, Block, Done, Then, NoneExp, SomeExp, NoneStm, SomeStm, NoneStms, SomeStms}
+use Rattle.hog_tree.specs.Plain.{Word, Exp, Exps, Parts, Pairs, Body, Stm, Stms, OptionExp, OptionStm, Int, Truth, Null, Text, Template, Name, Array, Dict, Neg, Not, Binary, Coalesce, Prop, PropNullish, Index, Call, Lambda, NoExp, MoreExp, NoPart, MoreText, MoreHole, NoPair, MorePair, OneExp, ManyStms, Let, Assign, Do, Return, Throw, If, While, For, ForIn, Fun, Try, Block, Done, Then, NoneExp, SomeExp, NoneStm, SomeStm, NoneStms, SomeStms}
 use Rattle.hog_captures.specs.Frees.{without_all, name_by, option_name_by, stms_frees, option_exp_frees, option_stm_frees}
 use Rattle.hog_captures.specs.Frames.{Frame, find_local, find_up, captures_of, with_local, with_name, with_hidden, inner_frame}
 use Rattle.hog_compiler.specs.Pieces.{one, lambda_name, key_count}
@@ -34,7 +34,6 @@ pops_fine n (Then s ss) = fine_join (pops_fine n ss) (name_off n s (stms_frees f
 pub call_fine : {n : ℕ} (w : Option Word) (count : ℕ) {callee : Ops} → Fine n callee → Fine n (call_code w count callee)
 call_fine {n} None count f = fine_join f (fine_one n (o.CallLocal count) (any_count count) refl (omega arith))
 call_fine {n} (Some w) count f = fine_native n (native_named w) count
-
 
 -- ---- forms
 

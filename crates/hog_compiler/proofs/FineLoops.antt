@@ -1,5 +1,5 @@
 -- Loops, calls, functions and pops are codes by themselves.
-use Rattle.std.proofs.Common.{◌≡◌, ◌≤◌, ℕ, zero, suc, ◌+◌, ◌&&◌, max, ℤ, pos, negsuc, neg_ℤ, ◌+ℤ◌, List, [], ◌∷◌, length, Bool, true, false, cond, Option, Some, None, refl, sym, ap, ap₂, subst, ◌∙◌, arith}
+use Rattle.std.proofs.Common.{◌≡◌, ◌≤◌, ℕ, zero, suc, ◌+◌, ◌&&◌, ℤ, pos, negsuc, neg_ℤ, ◌+ℤ◌, List, length, Bool, true, false, cond, Option, Some, None, refl, sym, ap, ap₂, ◌∙◌, arith}
 use Rattle.std.proofs.lemmas.Int.{ints}
 use Rattle.std.specs.Prelude.{nat_le}
 use Rattle.std.proofs.lemmas.Bool.Decides.{nat_tests}
@@ -9,15 +9,15 @@ use Rattle.hog_value.specs.Natives.{takes_of}
 use Rattle.hog_ops.specs.declared.capture.Capture.{Capture}
 use Rattle.hog_ops.specs.Plain as o
 use Rattle.hog_ops.specs.Plain.{Op, Ops, NoOp, MoreOp, ◌⊕◌}
-use Rattle.hog_ops.specs.Table.{size, span}
-use Rattle.hog_ops.specs.Valid.{op_allowed, allowed, op_height, height, is_place, is_place_of, may_lead, or_then, op_lost, lost_in, lost}
+use Rattle.hog_ops.specs.Table.{span}
+use Rattle.hog_ops.specs.Valid.{is_place, is_place_of, may_lead, or_then, op_lost, lost_in, lost}
 use Rattle.hog_ops.specs.Lost.{lost_none}
-use Rattle.hog_ops.specs.Join.{join_assoc, join_none, span-join, allowed-join, height-join, is_place-join, is_place-seam, lost_in-join, lost-within}
+use Rattle.hog_ops.specs.Join.{join_assoc, join_none, span-join, allowed-join, height-join, is_place-seam, lost_in-join, lost-within}
 use Rattle.hog_tree.specs.Plain.{Word}
 use Rattle.hog_tree.specs.declared.tree.BinaryOp.{BinaryOp}
 use Rattle.hog_tree.specs.declared.tree.BinaryOp.TheVariants as b
 use Rattle.hog_captures.specs.Frees.{is_among}
-use Rattle.hog_compiler.specs.Pieces.{one, truth_op, read_code, write_op, operator_op, is_left_first, binary_code, native_code, value_call, return_null, fun_code, loop_code, pop_op, pops, key_count, called_on, keys_code, hidden_code, more_code, item_code, key_code, next_code, key_pop, for_in_code}
+use Rattle.hog_compiler.specs.Pieces.{one, truth_op, read_code, write_op, operator_op, is_left_first, binary_code, native_code, return_null, fun_code, loop_code, pop_op, pops, key_count, called_on, hidden_code, more_code, item_code, key_code, next_code, key_pop, for_in_code}
 use Rattle.hog_compiler.proofs.Fine.{Fine, fine_none, fine_join, fine_more, fine_one}
 
 -- ---- a loop

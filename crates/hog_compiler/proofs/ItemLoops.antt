@@ -1,5 +1,5 @@
 -- The loop over items, from its numbers.
-use Rattle.std.proofs.Common.{◌≡◌, ℕ, ◌+◌, List, Option, ap, ap₂, ◌∙◌}
+use Rattle.std.proofs.Common.{◌≡◌, ℕ, ◌+◌, List, Option, ap, ◌∙◌}
 use Rattle.hog_ops.specs.Plain.{Ops, ◌⊕◌}
 use Rattle.hog_tree.specs.Plain.{Word}
 use Rattle.hog_compiler.specs.Pieces.{one, loop_code, pop_op, pops, key_count, hidden_code, more_code, item_code, key_code, next_code, key_pop, for_in_code}

@@ -1,9 +1,9 @@
 -- Lists of trees, as loops go over them.
-use Rattle.std.proofs.Common.{◌≡◌, ◌≤◌, ◌<◌, ℕ, zero, suc, ◌+◌, List, [], ◌∷◌, ◌++◌, length, take, get_or, Option, Some, None, refl, sym, ap, ap₂, ◌∙◌, subst, append_assoc, arith}
+use Rattle.std.proofs.Common.{◌≡◌, ◌≤◌, ◌<◌, ℕ, zero, suc, ◌+◌, List, [], ◌∷◌, ◌++◌, length, take, get_or, refl, sym, ap, ◌∙◌, arith}
 use Rattle.std.proofs.lemmas.List.{take_more, take_all}
 use Rattle.hog_ops.specs.Plain as o
 use Rattle.hog_ops.specs.Plain.{Ops, NoOp, MoreOp, ◌⊕◌}
-use Rattle.hog_ops.specs.Join.{join_assoc, join_none}
+use Rattle.hog_ops.specs.Join.{join_assoc}
 use Rattle.hog_scope.specs.Words.{count_of}
 use Rattle.hog_tree.specs.Plain as p
 use Rattle.hog_tree.specs.Plain.{Word, Stm, Stms, Done, Then, NoPart, MorePair, NoPair}
@@ -14,10 +14,9 @@ use Rattle.hog_tree.specs.declared.tree.DictItem.{DictItem}
 use Rattle.hog_tree.specs.declared.tree.Stmt.{Stmt}
 use Rattle.hog_tree.specs.Count.{of_exp, of_exps, of_parts, of_pairs, of_stm, of_stms}
 use Rattle.hog_tree.specs.View.{exp_of, exps_from, part_of, parts_from, pairs_from, stm_of, stms_from}
-use Rattle.hog_captures.specs.Frees.{name_by}
-use Rattle.hog_captures.specs.Frames.{Frame, with_local, with_name, with_hidden}
+use Rattle.hog_captures.specs.Frames.{Frame}
 use Rattle.hog_compiler.specs.Adds.{Adds}
-use Rattle.hog_compiler.specs.Code.{parts_count, pairs_count, exp_code, exps_code, parts_code, pairs_code, stm_code, stms_code}
+use Rattle.hog_compiler.specs.Code.{parts_count, pairs_count, exp_code, exps_code, parts_code, pairs_code}
 use Rattle.hog_compiler.specs.Nesting.{exp_nesting, exps_nesting, parts_nesting, pairs_nesting, stm_nesting, stms_nesting}
 use Rattle.hog_compiler.proofs.Joins.{adds_then, adds_at}
 

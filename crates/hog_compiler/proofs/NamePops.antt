@@ -1,5 +1,5 @@
 -- The pops of what statements declare.
-use Rattle.std.proofs.Common.{◌≡◌, ◌||◌, List, ◌++◌, Bool, true, false, cond, Option, Some, None, refl, sym, ap, ◌∙◌}
+use Rattle.std.proofs.Common.{◌≡◌, ◌||◌, List, Bool, true, cond, Option, Some, None, refl, sym, ap, ◌∙◌}
 use Rattle.hog_ops.specs.Plain as o
 use Rattle.hog_ops.specs.Plain.{Op, Ops, NoOp}
 use Rattle.hog_tree.specs.Plain.{Word, Stm, Let, Fun}

@@ -2,7 +2,6 @@
 use Rattle.std.proofs.Common.{◌≡◌, ℕ, List, refl}
 use Rattle.std.specs.declared.boxed.Box.{Box}
 use Rattle.std.specs.declared.alloc.Global.{Global}
-use Rattle.hog_ops.specs.Plain.{Ops, ◌⊕◌}
 use Rattle.hog_tree.specs.Plain as p
 use Rattle.hog_tree.specs.Plain.{Exp}
 use Rattle.hog_tree.specs.declared.tree.Named.{Named}

@@ -1,10 +1,8 @@
 -- Forms with lists, and what stands in them.
-use Rattle.std.proofs.Common.{◌≡◌, ◌≤◌, ℕ, List, [], length, Option, refl, sym, ap, ap₂, ◌∙◌, subst, arith}
+use Rattle.std.proofs.Common.{◌≡◌, ◌≤◌, ℕ, [], length, Option, sym, ap, ap₂, ◌∙◌, subst, arith}
 use Rattle.hog_value.specs.declared.native.Native.TheVariants as native
-use Rattle.hog_value.specs.Natives.{native_named}
 use Rattle.hog_ops.specs.Plain as o
 use Rattle.hog_ops.specs.Plain.{Ops, NoOp, ◌⊕◌}
-use Rattle.hog_scope.specs.Words.{count_of}
 use Rattle.std.specs.declared.boxed.Box.{Box}
 use Rattle.std.specs.declared.alloc.Global.{Global}
 use Rattle.hog_tree.specs.Plain as p
@@ -15,12 +13,12 @@ use Rattle.hog_tree.specs.declared.tree.Exprs.{Exprs}
 use Rattle.hog_tree.specs.declared.tree.Parts.{Parts}
 use Rattle.hog_tree.specs.declared.tree.DictItems.{DictItems}
 use Rattle.hog_tree.specs.declared.tree.ArrowBody.TheViews.{out-DictItems}
-use Rattle.hog_tree.specs.View.{exp_of, exps_from, parts_from, pairs_from, dict_of, body_of, stm_of, stms_from}
+use Rattle.hog_tree.specs.View.{exp_of, exps_from, parts_from, pairs_from, dict_of}
 use Rattle.hog_tree.proofs.Rows.{template_is, array_is, call_is, dict_is}
 use Rattle.hog_captures.specs.Frames.{Frame}
 use Rattle.hog_compiler.specs.Adds.{Adds}
 use Rattle.hog_compiler.specs.Pieces.{one, return_null}
-use Rattle.hog_compiler.specs.Code.{parts_count, pairs_count, called_native, call_code, exp_code, exps_code, parts_code, pairs_code, body_code, stms_code}
+use Rattle.hog_compiler.specs.Code.{pairs_count, called_native, call_code, exp_code, exps_code, parts_code, pairs_code, body_code, stms_code}
 use Rattle.hog_compiler.specs.Nesting.{deepest, exp_nesting, body_nesting, stm_nesting, stms_nesting}
 use Rattle.hog_compiler.proofs.Joins.{adds_then}
 use Rattle.hog_compiler.proofs.Fine.{Fine, fine_join}

@@ -5,10 +5,10 @@ use Rattle.hog_value.specs.Natives.{native_named}
 use Rattle.hog_ops.specs.Plain as o
 use Rattle.hog_ops.specs.Plain.{Op, Ops, NoOp, MoreOp, ◌⊕◌}
 use Rattle.hog_scope.specs.Words.{count_of}
-use Rattle.hog_tree.specs.Plain.{Word, Exp, Exps, Parts, Pairs, Body, Stm, Stms, OptionExp, OptionStm, OptionStms, Int, Truth, Null, Text, Template, Name, Array, Dict, Neg, Not, Binary, Coalesce, Prop, PropNullish, Index, Call, Lambda, NoExp, MoreExp, NoPart, MoreText, MoreHole, NoPair, MorePair, OneExp, ManyStms, Let, Assign, Do, Return, Throw, If, While, For, ForIn, Fun, Try, Block, Done, Then, NoneExp, SomeExp, NoneStm, SomeStm, NoneStms, SomeStms}
+use Rattle.hog_tree.specs.Plain.{Word, Exp, Exps, Parts, Pairs, Body, Stm, Stms, OptionExp, OptionStm, Int, Truth, Null, Text, Template, Name, Array, Dict, Neg, Not, Binary, Coalesce, Prop, PropNullish, Index, Call, Lambda, NoExp, MoreExp, NoPart, MoreText, MoreHole, NoPair, MorePair, OneExp, ManyStms, Let, Assign, Do, Return, Throw, If, While, For, ForIn, Fun, Try, Block, Done, Then, NoneExp, SomeExp, NoneStm, SomeStm, NoneStms, SomeStms}
 use Rattle.hog_captures.specs.Frees.{without_all, name_by, option_name_by, body_frees, stms_frees, option_exp_frees, option_stm_frees}
 use Rattle.hog_captures.specs.Frames.{Frame, first_frame, find_local, find_up, knows, captured_of, captures_of, with_local, with_name, with_hidden, inner_frame}
-use Rattle.hog_compiler.specs.Pieces.{one, truth_op, read_code, write_op, binary_code, coalesce_code, native_code, value_call, return_null, fun_code, lambda_name, if_code, if_else_code, loop_code, try_code, pop_op, pops, key_count, for_in_code}
+use Rattle.hog_compiler.specs.Pieces.{one, truth_op, read_code, write_op, binary_code, coalesce_code, native_code, value_call, return_null, fun_code, lambda_name, if_code, if_else_code, loop_code, try_code, pop_op, key_count, for_in_code}
 
 -- how many parts, and how many pairs
 abbrev pub parts_count : Parts → ℕ

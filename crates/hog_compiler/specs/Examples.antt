@@ -1,12 +1,12 @@
 -- Codes of small programs.
-use Rattle.std.specs.Prelude.{◌≡◌, ℕ, suc, pos, negsuc, List, [], ◌∷◌, true, false, Some, None, codes}
+use Rattle.std.specs.Prelude.{◌≡◌, ℕ, pos, negsuc, List, [], ◌∷◌, true, None, codes}
 use Rattle.std.proofs.Common.{refl}
 use Rattle.hog_value.specs.declared.native.Native.TheVariants as native
 use Rattle.hog_value.specs.Natives.{native_named}
 use Rattle.hog_ops.specs.Plain as o
 use Rattle.hog_ops.specs.Plain.{Op, Ops, NoOp, MoreOp, ◌⊕◌}
 use Rattle.hog_tree.specs.declared.tree.BinaryOp.TheVariants as b
-use Rattle.hog_tree.specs.Plain.{Word, Exp, Exps, Body, Stm, Stms, Int, Name, Binary, Coalesce, Call, Lambda, NoExp, MoreExp, OneExp, ManyStms, Let, Assign, Do, Return, Throw, If, While, For, ForIn, Fun, Try, Block, Done, Then, NoneExp, SomeExp, NoneStm, SomeStm, NoneStms, SomeStms}
+use Rattle.hog_tree.specs.Plain.{Word, Exp, Stm, Stms, Int, Name, Binary, Coalesce, Call, Lambda, NoExp, MoreExp, OneExp, Let, Assign, Do, Return, Throw, While, ForIn, Fun, Try, Block, Done, Then, NoneExp, SomeExp}
 use Rattle.hog_compiler.specs.Code.{code_of}
 
 abbrev listed : List Op → Ops

@@ -1,5 +1,5 @@
 -- The pieces of which code is made. Jumps lead over the lengths of parts.
-use Rattle.std.specs.Prelude.{ℕ, zero, suc, ◌+◌, ◌&&◌, pos, neg_ℤ, List, [], ◌∷◌, length, Bool, true, false, Option, Some, None, ◌||◌, bytes_eq, codes, if◌then◌else◌}
+use Rattle.std.specs.Prelude.{ℕ, zero, suc, ◌+◌, pos, neg_ℤ, List, length, Bool, true, false, Option, Some, None, codes, if◌then◌else◌}
 use Rattle.hog_value.specs.declared.native.Native.{Native}
 use Rattle.hog_value.specs.declared.native.Native.TheVariants as native
 use Rattle.hog_value.specs.Natives.{takes_of}

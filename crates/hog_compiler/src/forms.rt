@@ -133,11 +133,7 @@ fn parts<'t>(out: &mut Draft, frame: &Frame<'t>, ps: &'t Parts) -> Result<(), Al
 }
 
 #[cycle(forms)]
-fn dict_items<'t>(
-    out: &mut Draft,
-    frame: &Frame<'t>,
-    ds: &'t DictItems,
-) -> Result<(), AllocError>
+fn dict_items<'t>(out: &mut Draft, frame: &Frame<'t>, ds: &'t DictItems) -> Result<(), AllocError>
     requires { pairs_nesting (dict_of ds.now) ≤ deepest }
     ensures { OnOk result (Adds out.old out.new (pairs_code frame.now (dict_of ds.now))) }
 {
@@ -380,11 +376,7 @@ fn over_items<'t>(
 }
 
 #[cycle(forms)]
-fn function<'t>(
-    out: &mut Draft,
-    frame: &mut Frame<'t>,
-    fun: &'t FunTree,
-) -> Result<(), AllocError>
+fn function<'t>(out: &mut Draft, frame: &mut Frame<'t>, fun: &'t FunTree) -> Result<(), AllocError>
     requires { stm_nesting (Fun fun.now.name.word (words_of fun.now.params) (stms_from fun.now.body.list.items)) ≤ deepest }
     ensures code { OnOk result (Adds out.old out.new
         (stm_code frame.old (Fun fun.now.name.word (words_of fun.now.params) (stms_from fun.now.body.list.items)))) }

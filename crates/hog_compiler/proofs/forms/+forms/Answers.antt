@@ -1,4 +1,4 @@
-use Rattle.std.proofs.Common.{rules, ◌≡◌, ◌≤◌, take, refl, sym, ap, ap₂, ◌∙◌, arith, Some, None}
+use Rattle.std.proofs.Common.{take, sym, ap, ap₂, ◌∙◌, arith, Some, None}
 use Rattle.std.proofs.lemmas.Result.{on_ok_weaker}
 use Rattle.hog_ops.specs.Plain as o
 use Rattle.hog_ops.specs.Plain.{MoreOp, ◌⊕◌}
@@ -12,9 +12,9 @@ use Rattle.hog_tree.proofs.Rows.{template_is, array_is, call_is, body_is, let_is
 use Rattle.hog_captures.specs.Frees.{name_by}
 use Rattle.hog_captures.specs.Frames.{with_name}
 use Rattle.hog_compiler.specs.Pieces.{one, native_code, loop_code}
-use Rattle.hog_compiler.specs.Code.{called_native, exp_code, exps_code, parts_code, pairs_code, body_code, stm_code, stms_code}
+use Rattle.hog_compiler.specs.Code.{called_native, exp_code, exps_code, parts_code, pairs_code, body_code, stm_code}
 use Rattle.hog_compiler.specs.Nesting.{exp_nesting, exps_nesting, parts_nesting, pairs_nesting, body_nesting, stm_nesting, stms_nesting, option_exp_nesting, option_stms_nesting}
-use Rattle.hog_compiler.proofs.Joins.{adds_none, adds_then, adds_at}
+use Rattle.hog_compiler.proofs.Joins.{adds_then, adds_at}
 use Rattle.hog_compiler.proofs.Lists.{adds_more, adds_all, exps_more, parts_more, pairs_more, exps_deep, parts_deep, pairs_deep, stms_deep, exps_counts, parts_counts, pairs_counts, stms_counts}
 use Rattle.hog_compiler.proofs.Frames.{grown_none, grown_after, adds_stm, after_one}
 use Rattle.hog_compiler.proofs.TreeForms.{dict_listed, template_same, array_same, dict_same, call_same, written, lambda_fine, function_fine}
@@ -24,7 +24,7 @@ use Rattle.hog_compiler.proofs.forms.+forms.Goals as goal
 -- ---- bodies
 
 pub arrow_body-stmts-requires : goal.arrow_body-stmts-requires
-arrow_body-stmts-requires t c = 
+arrow_body-stmts-requires t c =
     let same = ap body_of c.in-Block.is ∙ body_is c.in-Block.list in (omega (arith, c.decreases, ap of_body same), omega (arith, c.requires, ap body_nesting same))
 
 pub arrow_body-returns-in_ok-stmts-in-Block : goal.arrow_body-returns-in_ok-stmts-in-Block
@@ -220,11 +220,11 @@ stmts-returns-clause-frame t c =
 -- ---- expressions
 
 pub expr-parts-requires : goal.expr-parts-requires
-expr-parts-requires t c = 
+expr-parts-requires t c =
     let same = ap exp_of c.in-Template.is ∙ template_is c.in-Template.list in (omega (arith, c.decreases, ap of_exp same), omega (arith, c.requires, ap exp_nesting same))
 
 pub expr-exprs-requires : goal.expr-exprs-requires
-expr-exprs-requires t c = 
+expr-exprs-requires t c =
     let same = ap exp_of c.in-Array.is ∙ array_is c.in-Array.list in (omega (arith, c.decreases, ap of_exp same), omega (arith, c.requires, ap exp_nesting same))
 
 pub expr-exprs-requires-in-Call : goal.expr-exprs-requires-in-Call
@@ -270,15 +270,15 @@ expr-returns-in_ok-expr-in-Call t c =
 -- ---- statements
 
 pub stmt-value-requires : goal.stmt-value-requires
-stmt-value-requires t c = 
+stmt-value-requires t c =
     let same = ap stm_of c.in-Let.is ∙ let_is c.in-Let.field-0 c.in-Let.x in (omega (arith, c.decreases, ap of_stm same), omega (arith, c.requires, ap stm_nesting same))
 
 pub stmt-value-requires-in-Return : goal.stmt-value-requires-in-Return
-stmt-value-requires-in-Return t c = 
+stmt-value-requires-in-Return t c =
     let same = ap stm_of c.in-Return.is ∙ return_is c.in-Return.x in (omega (arith, c.decreases, ap of_stm same), omega (arith, c.requires, ap stm_nesting same))
 
 pub stmt-choice-requires : goal.stmt-choice-requires
-stmt-choice-requires t c = 
+stmt-choice-requires t c =
     let same = ap stm_of c.in-If.is ∙ if_is c.in-If.condition c.in-If.body c.in-If.other in (omega (arith, c.decreases, ap of_stm same), omega (arith, c.requires, ap stm_nesting same))
 
 pub stmt-block-requires : goal.stmt-block-requires
@@ -287,23 +287,23 @@ stmt-block-requires t c =
     (omega (arith, c.decreases, ap of_stm same), omega (arith, c.requires, ap stm_nesting same))
 
 pub stmt-counting-requires : goal.stmt-counting-requires
-stmt-counting-requires t c = 
+stmt-counting-requires t c =
     let same = ap stm_of c.in-For.is ∙ for_is c.in-For.start c.in-For.condition c.in-For.step c.in-For.body in (omega (arith, c.decreases, ap of_stm same), omega (arith, c.requires, ap stm_nesting same))
 
 pub stmt-over_items-requires : goal.stmt-over_items-requires
-stmt-over_items-requires t c = 
+stmt-over_items-requires t c =
     let same = ap stm_of c.in-ForIn.is ∙ for_in_is c.in-ForIn.key c.in-ForIn.name c.in-ForIn.list c.in-ForIn.body in (omega (arith, c.decreases, ap of_stm same), omega (arith, c.requires, ap stm_nesting same))
 
 pub stmt-function-requires : goal.stmt-function-requires
-stmt-function-requires t c = 
+stmt-function-requires t c =
     let same = ap stm_of c.in-Fun.is ∙ fun_is c.in-Fun.fun in (omega (arith, c.decreases, ap of_stm same), omega (arith, c.requires, ap stm_nesting same))
 
 pub stmt-guarded-requires : goal.stmt-guarded-requires
-stmt-guarded-requires t c = 
+stmt-guarded-requires t c =
     let same = ap stm_of c.in-Try.is ∙ try_is c.in-Try.body c.in-Try.name c.in-Try.handler in (omega (arith, c.decreases, ap of_stm same), omega (arith, c.requires, ap stm_nesting same))
 
 pub stmt-block-requires-in-Block : goal.stmt-block-requires-in-Block
-stmt-block-requires-in-Block t c = 
+stmt-block-requires-in-Block t c =
     let same = ap stm_of c.in-Block.is ∙ block_is c.in-Block.list in (omega (arith, c.decreases, ap of_stm same), omega (arith, c.requires, ap stm_nesting same))
 
 pub stmt-returns-in-If-clause-code : goal.stmt-returns-in-If-clause-code

@@ -1,4 +1,4 @@
-use Rattle.std.proofs.Common.{◌||◌, ap, sym, ◌∙◌, false}
+use Rattle.std.proofs.Common.{ap, sym, ◌∙◌, false}
 use Rattle.std.proofs.lemmas.Result.{on_ok_weaker}
 use Rattle.hog_tree.specs.View.{stm_of, stms_from}
 use Rattle.hog_captures.specs.Frees.{stms_frees}

@@ -1,10 +1,10 @@
-use Rattle.std.proofs.Common.{◌||◌, ◌++◌, ap, sym, ◌∙◌, false, Some}
+use Rattle.std.proofs.Common.{◌||◌, ◌++◌, ap, sym, ◌∙◌, false}
 use Rattle.std.proofs.lemmas.Result.{on_ok_weaker}
 use Rattle.hog_tree.specs.View.{stm_of, stms_from, option_exp_from, option_stm_from}
 use Rattle.hog_captures.specs.Frees.{name_by, is_among, stms_frees, option_exp_frees, option_stm_frees}
 use Rattle.hog_compiler.specs.Itself.{names_itself}
 use Rattle.hog_compiler.specs.Pieces.{one}
-use Rattle.hog_compiler.specs.Code.{name_pop, option_name_pop}
+use Rattle.hog_compiler.specs.Code.{option_name_pop}
 use Rattle.hog_compiler.proofs.Joins.{adds_at}
 use Rattle.hog_compiler.proofs.NamePops.{popped, named_pop}
 use Rattle.hog_compiler.proofs.pops.start_pop.Goals as goal

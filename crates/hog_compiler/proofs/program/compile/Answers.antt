@@ -1,4 +1,4 @@
-use Rattle.std.proofs.Common.{◌≤◌, ap, ◌∙◌, arith}
+use Rattle.std.proofs.Common.{ap, ◌∙◌, arith}
 use Rattle.hog_ops.specs.Plain.{◌⊕◌}
 use Rattle.hog_tree.specs.View.{tree_of}
 use Rattle.hog_compiler.specs.Pieces.{return_null}
