@@ -2,6 +2,7 @@
 
 ghost use Rattle.std.specs.Prelude.{◌≡◌, ◌≢◌, ℕ, ◌+◌, ◌<◌, ◌≤◌, List, [], length, IfOk, OnOk, Err};
 ghost use Rattle.hog_outside.specs.Faults.{Rose};
+ghost use Rattle.hog_compiler.specs.Nesting.{deepest, stms_nesting};
 ghost use Rattle.hog_tree.specs.View.{tree_of};
 ghost use Rattle.hog_program.specs.declared.stop.BuildStop.{BuildStop as Stop};
 ghost use Rattle.hog_runner.specs.Commands.{most_bytes, Reads, Rejects};
@@ -57,11 +58,12 @@ impl From<BuildStop> for ProgramStop {
 /// Reads the program of a text, as the command asks for it.
 fn read_text(alloc: Global, command: Command, text: &[u8]) -> Result<Tree, BuildStop>
     ensures reads { IfOk result (λ tree. Reads command text.now (tree_of tree)) }
+    ensures low { IfOk result (λ tree. stms_nesting (tree_of tree) ≤ deepest) }
     ensures rejects { (stop : Stop) → result ≡ Err stop → stop ≢ BuildStop.OutOfMemory
         → Rejects command text.now stop }
 {
     match command {
-        Command::Eval => read_whole(alloc, text),
+        Command::Eval | Command::Compile => read_whole(alloc, text),
         Command::Fmt => read_tree(alloc, text),
     }
 }
@@ -74,6 +76,7 @@ pub fn read_program<S: Source>(
 ) -> Result<Tree, ProgramStop>
     ensures program { IfOk result (λ tree. (xs : List ℕ) → S.left source.old ≡ Some xs
         → Reads command xs (tree_of tree)) }
+    ensures low { IfOk result (λ tree. stms_nesting (tree_of tree) ≤ deepest) }
     ensures small { IfOk result (λ tree. (xs : List ℕ) → S.left source.old ≡ Some xs
         → length xs ≤ most_bytes) }
     ensures end { OnOk result ((xs : List ℕ) → S.left source.old ≡ Some xs

@@ -3,6 +3,7 @@
 ghost use Rattle.std.specs.Prelude.{◌≡◌, ◌↔◌, ◌⊎◌, ℕ, ◌+◌, ◌<◌, ◌≤◌};
 ghost use Rattle.std.specs.Prelude.{List, [], length, Some, None};
 ghost use Rattle.hog_outside.specs.Faults.{Rose};
+ghost use Rattle.hog_compiler.specs.Nesting.{deepest, stms_nesting};
 ghost use Rattle.hog_tree.specs.View.{tree_of};
 ghost use Rattle.line_writer.specs.Added.{Adds, AddsPrefix, AddsUnless};
 ghost use Rattle.hog_runner.specs.Causes.{cause_of};
@@ -14,6 +15,8 @@ ghost use Rattle.hog_runner.specs.declared.words.Command.{Command as Asked};
 use crate::causes::refusal_of;
 use crate::program::{ProgramStop, read_program};
 use crate::words::{Command, command_of};
+use bytecode_json::encode;
+use hog_compiler::compile_tree;
 use hog_outside::{Sink, Source};
 use hog_printer::print_tree;
 use hog_program::BuildStop;
@@ -22,7 +25,7 @@ use hog_tree::tree::Tree;
 use hog_value::HogText;
 use hogvm::evaluate;
 use hogvm::sums::is_sums;
-use line_writer::{OutputStop, write_shown, write_whole};
+use line_writer::{OutputStop, write_line, write_shown, write_whole};
 use std::alloc::Global;
 
 /// Does what the words ask for, and answers the status of the program: 0 done, 1 the input is refused,
@@ -112,6 +115,7 @@ pub fn top_program<S: Source, W: Sink>(
 
 /// Does what the command asks for with a program. Answers the status.
 fn run<W: Sink>(alloc: Global, sink: &mut W, command: Command, program: &Tree) -> u8
+    requires { stms_nesting (tree_of program.now) ≤ deepest }
     ensures statuses { (result ≡ 0) ⊎ ((result ≡ 1) ⊎ ((result ≡ 4) ⊎ (result ≡ 5))) }
     ensures done { result ≡ 0 → (out : List ℕ) × Gives command (tree_of program.now) out
         × Adds (W.taken sink.old) (W.taken sink.new) out }
@@ -129,6 +133,7 @@ fn run<W: Sink>(alloc: Global, sink: &mut W, command: Command, program: &Tree) -
     match command {
         Command::Eval => run_eval(alloc, sink, program),
         Command::Fmt => run_fmt(alloc, sink, program),
+        Command::Compile => run_compile(alloc, sink, program),
     }
 }
 
@@ -180,6 +185,34 @@ fn run_fmt<W: Sink>(alloc: Global, sink: &mut W, program: &Tree) -> u8
     match write_whole(sink, text.bytes()) {
         Ok(()) => 0,
         Err(_) => 4,
+    }
+}
+
+/// Writes the bytecode of a program on a line.
+fn run_compile<W: Sink>(alloc: Global, sink: &mut W, program: &Tree) -> u8
+    requires { stms_nesting (tree_of program.now) ≤ deepest }
+    ensures statuses { (result ≡ 0) ⊎ ((result ≡ 1) ⊎ ((result ≡ 4) ⊎ (result ≡ 5))) }
+    ensures done { result ≡ 0 → (out : List ℕ) × Gives Command.Compile (tree_of program.now) out
+        × Adds (W.taken sink.old) (W.taken sink.new) out }
+    ensures taken { ¬ (result ≡ 1) }
+    ensures failed { result ≡ 4 → Rose (W.faults sink.old) (W.faults sink.new) }
+    ensures failed_prefix { result ≡ 4 → (out : List ℕ) × Gives Command.Compile (tree_of program.now) out
+        × AddsPrefix (W.taken sink.old) (W.taken sink.new) out }
+    ensures no_memory_prefix { result ≡ 5 → (sink.new ≡ sink.old)
+        ⊎ ((out : List ℕ) × Gives Command.Compile (tree_of program.now) out
+        × AddsPrefix (W.taken sink.old) (W.taken sink.new) out) }
+    ensures count { W.faults sink.old ≤ W.faults sink.new }
+{
+    let Ok(code) = compile_tree(alloc, program) else {
+        return 5;
+    };
+    let Ok(line) = encode(alloc, &code) else {
+        return 5;
+    };
+    match write_line(alloc, sink, &line) {
+        Ok(()) => 0,
+        Err(OutputStop::Failed) => 4,
+        Err(OutputStop::OutOfMemory) => 5,
     }
 }
 

@@ -13,6 +13,8 @@ pub enum Command {
     Eval,
     /// Prints the tree of a program.
     Fmt,
+    /// Prints the bytecode of a program.
+    Compile,
 }
 
 /// The command that the words ask for, if they are one.
@@ -32,6 +34,7 @@ fn named(word: &HogText) -> Option<Command>
     match word.as_str() {
         "eval" => Some(Command::Eval),
         "fmt" => Some(Command::Fmt),
+        "compile" => Some(Command::Compile),
         _ => None,
     }
 }

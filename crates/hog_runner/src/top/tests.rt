@@ -75,6 +75,13 @@ fn answers(rt: HostRuntime) -> Result<(), Fail> {
             "print \"1\"\nprint \"2\"\nresult \"null\"\n",
         ),
         calm(&["eval"], "x", 1, "refused: not built yet\n"),
+        calm(
+            &["compile"],
+            "return 1 + 2;",
+            0,
+            "[\"_H\",1,33,2,33,1,6,38,31,38]\n",
+        ),
+        calm(&["compile"], "x := 1;", 1, "refused: assigns unknown at 0\n"),
         calm(&[], "return 1;", 2, "refused: words\n"),
         calm(&["eval", "x"], "return 1;", 2, "refused: words\n"),
         calm(&["Eval"], "return 1;", 2, "refused: words\n"),
