@@ -63,9 +63,9 @@ module _ (g : Given) (n d : ℕ) (c : Ctx) (ρ : Env) (p : ℕ) (L : List Seat) 
       let here = spot c p (p + 2) in
       one_step g S _
       (op_is g (o.SetLocal i) c p (Temp x ∷ L) G w is
-       ∙ ap (λ t. let there : State = on_with here t.1 S in record there { stack = with_value there.stack (c.base + i) t.0 }) (top_pic c (Temp x) L w h.framed)
-       ∙ ap (λ (z : State). record z { stack = with_value z.stack (c.base + i) x }) (on_pic c p (p + 2) (Temp x ∷ []) L G w h.kept.layout)
-       ∙ writes (frame (p + 2) c.base c.function ∷ c.frames) (landings c) L G w y (c.base + i) x h.kept.layout (seat_place (length w.store) L (c.base + i) y h.kept.layout seat))
+      ∙ ap (λ t. let there : State = on_with here t.1 S in record there { stack = with_value there.stack (c.base + i) t.0 }) (top_pic c (Temp x) L w h.framed)
+      ∙ ap (λ (z : State). record z { stack = with_value z.stack (c.base + i) x }) (on_pic c p (p + 2) (Temp x ∷ []) L G w h.kept.layout)
+      ∙ writes (frame (p + 2) c.base c.function ∷ c.frames) (landings c) L G w y (c.base + i) x h.kept.layout (seat_place (length w.store) L (c.base + i) y h.kept.layout seat))
       (passes g c p (p + 2) (Temp x ∷ L) L G G w (write_var y x w) is (omega arith) (omega arith))
 
   upvalue_set : (j y u : ℕ) (x : Val) → slice_get c.captured j ≡ Some u → slice_get G.owners u ≡ Some y → slice_get g.code p ≡ Some (Begins (o.SetUpvalue j)) → Comes g (at c p (Temp x ∷ L) G w) (at c (p + 2) L G (write_var y x w))
@@ -78,12 +78,12 @@ module _ (g : Given) (n d : ℕ) (c : Ctx) (ρ : Env) (p : ℕ) (L : List Seat) 
       let there : slice_get (ups_of L w.store G.owners) u ≡ Some (up_of L w.store y) = slice_get-map (λ z. up_of L w.store z) G.owners u ∙ rw owner refl in
       one_step g S _
       (op_is g (o.SetUpvalue j) c p (Temp x ∷ L) G w is
-       ∙ ap (λ t. write_upvalue f j t.0 (on_with here t.1 S)) (top_pic c (Temp x) L w h.framed)
-       ∙ ap (λ z. write_upvalue f j x z) (on_pic c p (p + 2) (Temp x ∷ []) L G w h.kept.layout)
-       ∙ ap (λ xs. write_numbered (slice_get xs j) x S2) (captured_is g n d c p L G w c.function c.captured h.captured)
-       ∙ ap (λ a. write_numbered a x S2) taken
-       ∙ ap (λ a. write_to u x a S2) there
-       ∙ by_place (place_of L y) refl)
+      ∙ ap (λ t. write_upvalue f j t.0 (on_with here t.1 S)) (top_pic c (Temp x) L w h.framed)
+      ∙ ap (λ z. write_upvalue f j x z) (on_pic c p (p + 2) (Temp x ∷ []) L G w h.kept.layout)
+      ∙ ap (λ xs. write_numbered (slice_get xs j) x S2) (captured_is g n d c p L G w c.function c.captured h.captured)
+      ∙ ap (λ a. write_numbered a x S2) taken
+      ∙ ap (λ a. write_to u x a S2) there
+      ∙ by_place (place_of L y) refl)
       (passes g c p (p + 2) (Temp x ∷ L) L G G w (write_var y x w) is (omega arith) (omega arith))
     where
       by_place : (a : Option ℕ) → place_of L y ≡ a → write_to u x (Some (up_of_place a (read w.store y))) (at c (p + 2) L G w) ≡ at c (p + 2) L G (write_var y x w)
@@ -115,14 +115,14 @@ module _ (g : Given) (n d : ℕ) (c : Ctx) (ρ : Env) (p : ℕ) (L : List Seat) 
       let f3 = framed_push c (Temp x) (Temp k ∷ Temp b ∷ L) f2 in
       let kept = kept_push x (kept_push k (kept_push b h.kept)) in
       let acts : step g.fixed g.code S ≡ on_outcome (outcome_map built (assigned G.heap b k x w.units)) (λ z s1. on_with here rest s1) S =
-          op_is g o.SetProperty c p M G w is
-          ∙ ap (λ v. let kk = top_of (floor_in c) v.1 in let bb = top_of (floor_in c) kk.1 in on_outcome (assigned (heap_map built G.heap) bb.0 kk.0 v.0 w.units) (λ z s1. on_with here bb.1 s1) S) (top_pic c (Temp x) (Temp k ∷ Temp b ∷ L) w f2)
-          ∙ ap (λ kk. let bb = top_of (floor_in c) kk.1 in on_outcome (assigned (heap_map built G.heap) bb.0 kk.0 x w.units) (λ z s1. on_with here bb.1 s1) S) (top_pic c (Temp k) (Temp b ∷ L) w f1)
-          ∙ ap (λ bb. on_outcome (assigned (heap_map built G.heap) bb.0 k x w.units) (λ z s1. on_with here bb.1 s1) S) (top_pic c (Temp b) L w h.framed)
-          ∙ ap (λ z. on_outcome z (λ y s1. on_with here rest s1) S) (assigned-heap_map built G.heap b k x w.units) in
+      op_is g o.SetProperty c p M G w is
+      ∙ ap (λ v. let kk = top_of (floor_in c) v.1 in let bb = top_of (floor_in c) kk.1 in on_outcome (assigned (heap_map built G.heap) bb.0 kk.0 v.0 w.units) (λ z s1. on_with here bb.1 s1) S) (top_pic c (Temp x) (Temp k ∷ Temp b ∷ L) w f2)
+      ∙ ap (λ kk. let bb = top_of (floor_in c) kk.1 in on_outcome (assigned (heap_map built G.heap) bb.0 kk.0 x w.units) (λ z s1. on_with here bb.1 s1) S) (top_pic c (Temp k) (Temp b ∷ L) w f1)
+      ∙ ap (λ bb. on_outcome (assigned (heap_map built G.heap) bb.0 k x w.units) (λ z s1. on_with here bb.1 s1) S) (top_pic c (Temp b) L w h.framed)
+      ∙ ap (λ z. on_outcome z (λ y s1. on_with here rest s1) S) (assigned-heap_map built G.heap b k x w.units) in
       let one : assigned w.heap b k x w.units ≡ outcome_map meant (assigned G.heap b k x w.units) = ap (λ z. assigned z b k x w.units) h.kept.heap ∙ assigned-heap_map meant G.heap b k x w.units in
       let r = outcome_runs g n d c p M G w (ready_with is (omega arith) u f3 kept) {P = λ (z : Unit {0}) (w1 : World) (G1 : Ghost) (s1 : State). (s1 ≡ at c (p + 1) L G1 w1) × Kept g n L G1 w1} (assigned G.heap b k x w.units) (λ z s1. on_with here rest s1)
-              (assigned_fair (FunOk g.code G.owners) G.heap h.kept.funs b k x w.units) acts done_at in
+      (assigned_fair (FunOk g.code G.owners) G.heap h.kept.funs b k x w.units) acts done_at in
       subst (λ z. Run g n (landings c) S G (PlainEnd g n d c q L) (mean.done ρ (m.of_outcome z w))) (sym one)
       (run_then g n r (λ z w1 G1 s1 x1 at_end. plain g n d q (stays g s1) (at_end.0 ∙ ap (λ y. at c y L G1 w1) e) (fits_on h x1 at_end.1) full))
     where
@@ -171,16 +171,18 @@ module _ (g : Given) (n d : ℕ) where
       let cell : FunCell = record { place = p + header; captured = got.0 } in
       let fun : Closure = record { params = ps; body = ManyStms b; env = ρ1 } in
       let ok : FunOk g.code (G.owners ++ t.more) (fun, cell) = record {
-        ups = xs; code_at = has.1; params = params_found g n d p f (length ps) body caps has.0;
+        ups = xs;
+        code_at = has.1;
+        params = params_found g n d p f (length ps) body caps has.0;
         calls = subst (λ V. StmsOk (onto ps (f ∷ V)) b) (sym h.sight) good;
         sees = taken_sees store1 L1 fr c.captured height high inside ρ1 ws1 words G.owners got sub h1.sees t;
       } in
       let go_on : Val → State → State = λ v s1. record (on_and_push (spot c p (p + size code)) s1.stack v s1) { upvalues = got.1 } in
       let acts : step g.fixed g.code S ≡ on_outcome (outcome_map built (made (Fun (fun, cell)) G.heap w.units)) go_on S =
-          op_is g code c p L G w has.0
-          ∙ ap (λ captured. let numbers = capture_all height fr captured caps (ups_of L w.store G.owners) in
-                on_outcome (made (Fun (record { place = p + header; captured = numbers.0 })) (heap_map built G.heap) w.units) (λ v s1. record (on_and_push (spot c p (p + size code)) s1.stack v s1) { upvalues = numbers.1 }) S) (captured_is g n d c p L G w c.function c.captured h.captured)
-          ∙ ap (λ z. on_outcome z go_on S) (made-heap_map built (Fun (fun, cell)) G.heap w.units) in
+      op_is g code c p L G w has.0
+      ∙ ap (λ captured. let numbers = capture_all height fr captured caps (ups_of L w.store G.owners) in
+      on_outcome (made (Fun (record { place = p + header; captured = numbers.0 })) (heap_map built G.heap) w.units) (λ v s1. record (on_and_push (spot c p (p + size code)) s1.stack v s1) { upvalues = numbers.1 }) S) (captured_is g n d c p L G w c.function c.captured h.captured)
+      ∙ ap (λ z. on_outcome z go_on S) (made-heap_map built (Fun (fun, cell)) G.heap w.units) in
       let one : made (Fun fun) w.heap w.units ≡ outcome_map meant (made (Fun (fun, cell)) G.heap w.units) = ap (λ z. made (Fun fun) z w.units) h.kept.heap ∙ made-heap_map meant (Fun (fun, cell)) G.heap w.units in
       let twin : CellOf Twin = Fun (fun, cell) in
       let units = w.units + cost_of_cell twin in
@@ -194,24 +196,33 @@ module _ (g : Given) (n d : ℕ) where
       let keeps = keeps_append G.heap (twin ∷ []) in
       let k = h1.kept in
       let kept : Kept g n L1 G1 w1 = record {
-        layout = k.layout; owners = t.owned; heap = refl; turns = k.turns; texts = λ p t x. keeps.texts _ t (k.texts p t x);
+        layout = k.layout;
+        owners = t.owned;
+        heap = refl;
+        turns = k.turns;
+        texts = λ p t x. keeps.texts _ t (k.texts p t x);
         funs = all_append (FunOk g.code (G.owners ++ t.more)) G.heap (twin ∷ []) (funs_on g.code G.owners t.more G.heap k.funs) (ok, tt);
       } in
       subst (λ z. Run g n (landings c) S G (StmEnd g n d c q (Some f) L) (and_then (m.of_outcome z w) (λ v w1. Gives (GoesOn ρ1) (declare v w1)))) (sym one)
       (made_either twin G.heap w.units (λ (z : Outcome Twin Val). step g.fixed g.code S ≡ on_outcome (outcome_map built z) go_on S → Run g n (landings c) S G (StmEnd g n d c q (Some f) L) (and_then (m.of_outcome (outcome_map meant z) w) (λ v w1. Gives (GoesOn ρ1) (declare v w1))))
       (λ acts1.
-          let done = acts1 ∙ ap (λ (z : State). record (push v z) { upvalues = got.1 }) (on_pic c p behind [] L Gm wm h.kept.layout)
-              ∙ ap (λ (z : State). record z { upvalues = got.1 }) (becomes fs (landings c) [] v L Gm wm h.kept.layout h.kept.owners)
-              ∙ ap (λ us. record (pic fs (landings c) L1 G1 w1) { upvalues = us }) t.is in
-          record { ends = record {
-            last = at c behind L1 G1 w1; ghost' = G1;
-            comes = one_step g S (at c behind L1 G1 w1) done (passes g c p behind L L1 G G1 w w1 has.0 (omega (arith, has.2, has.3)) (omega arith));
-            extends = record { owners = (t.more, refl); heap = keeps };
-            holds = record {
-              new = Var var ∷ []; many = refl; full = omega (arith, full);
-              is = ap (λ z. at c z L1 G1 w1) has.2;
-              fits = record { kept = kept; framed = h1.framed; sees = sees_on ws1 inside ρ1 c.base c.captured L1 G.owners t.more h1.sees; captured = captured_on c.function c.captured G.heap heap1 keeps h.captured; sight = h1.sight };
-            };
-          } })
+      let done = acts1 ∙ ap (λ (z : State). record (push v z) { upvalues = got.1 }) (on_pic c p behind [] L Gm wm h.kept.layout)
+      ∙ ap (λ (z : State). record z { upvalues = got.1 }) (becomes fs (landings c) [] v L Gm wm h.kept.layout h.kept.owners)
+      ∙ ap (λ us. record (pic fs (landings c) L1 G1 w1) { upvalues = us }) t.is in
+      record {
+        ends = record {
+          last = at c behind L1 G1 w1;
+          ghost' = G1;
+          comes = one_step g S (at c behind L1 G1 w1) done (passes g c p behind L L1 G G1 w w1 has.0 (omega (arith, has.2, has.3)) (omega arith));
+          extends = record { owners = (t.more, refl); heap = keeps };
+          holds = record {
+            new = Var var ∷ [];
+            many = refl;
+            full = omega (arith, full);
+            is = ap (λ z. at c z L1 G1 w1) has.2;
+            fits = record { kept = kept; framed = h1.framed; sees = sees_on ws1 inside ρ1 c.base c.captured L1 G.owners t.more h1.sees; captured = captured_on c.function c.captured G.heap heap1 keeps h.captured; sight = h1.sight };
+          };
+        };
+      })
       (λ acts1. spends g n d c p L G w (ready_with has.0 (omega (arith, has.3)) u h.framed h.kept) m.MemorySpent acts1)
       acts)

@@ -180,14 +180,16 @@ module _ (g : Given) (n d : ℕ) where
     kept = kept_new v L w h.kept;
     framed = framed_scope (with_local (Some x) c.scope) (x ∷ c.words) (x ∷ c.sight) (framed_push c (Var (length w.store)) L h.framed);
     sees = sees_local c.words c.scope ρ c.base c.captured x (length w.store) L G.owners full h.sees;
-    captured = h.captured; sight = ap (λ V. x ∷ V) h.sight;
+    captured = h.captured;
+    sight = ap (λ V. x ∷ V) h.sight;
   }
 
   -- the value on the top becomes a variable
   pub let_runs : (c : Ctx) (ρ : Env) (p : ℕ) (x : Word) (L : List Seat) (v : Val) (G : Ghost) (w : World) → Fits g n d c ρ L G w → length L ≡ c.base + length c.scope.locals → Run g n (landings c) (at c p (Temp v ∷ L) G w) G (StmEnd g n d c p (Some x) L) (Gives (GoesOn (named x w ρ)) (declare v w))
   let_runs c ρ p x L v G w h full =
       gives g n (stays g _) (record {
-        new = Var (length w.store) ∷ []; many = refl;
+        new = Var (length w.store) ∷ [];
+        many = refl;
         is = becomes (frame p c.base c.function ∷ c.frames) (landings c) [] v L G w h.kept.layout h.kept.owners;
         fits = fits_local x v h full;
         full = omega arith;
@@ -202,9 +204,11 @@ module _ (g : Given) (n d : ℕ) where
       let k = kept_push v h.kept in
       let same = sym (ap (λ z. m.with_heap w z w.units) h.kept.heap) in
       let k2 : Kept g n (Temp v ∷ L) (record G { heap = G.heap }) (m.with_heap w (heap_map meant G.heap) w.units) = record { layout = k.layout; owners = k.owners; heap = refl; funs = k.funs; texts = k.texts; turns = k.turns } in
-      record { ends = subst (λ z. ThrowEnds g n (landings c) S G v z) same
-          (raised g n c p (Temp v ∷ L) G w v G.heap w.units is (under_less c.own le u) f (keeps_same G.heap) k2
-          (op_is g o.Throw c p (Temp v ∷ L) G w is ∙ ap (λ t. throw_value t.0 S) (top_pic c (Temp v) L w h.framed))) }
+      record {
+        ends = subst (λ z. ThrowEnds g n (landings c) S G v z) same
+            (raised g n c p (Temp v ∷ L) G w v G.heap w.units is (under_less c.own le u) f (keeps_same G.heap) k2
+            (op_is g o.Throw c p (Temp v ∷ L) G w is ∙ ap (λ t. throw_value t.0 S) (top_pic c (Temp v) L w h.framed)));
+      }
 
   -- a return to the caller, or the end
   return_falls : (v : Val) (p q : ℕ) (c : Ctx) (f2 : Frame) (fs : List Frame) (M M2 : List Seat) (ls2 : List Landing) (G : Ghost) (w : World) → c.frames ≡ f2 ∷ fs → slice_get g.code p ≡ Some (Begins o.Return) → suc (psi g (pic (f2 ∷ fs) ls2 M2 G w)) ≤ psi g (at c p M G w)
@@ -223,13 +227,15 @@ module _ (g : Given) (n d : ℕ) where
       let j = suc (length (f2 ∷ fs)) in
       let lens = ap (length {A = Frame}) e in
       let done : step g.fixed g.code S ≡ pic (f2 ∷ fs) c.outer (Temp v ∷ c.below) G w =
-          first
-          ∙ ap (λ z. push v (record (cut_to (keep z S.stack) S) { frames = f2 ∷ fs; throws = throws_around j S.throws })) b
-          ∙ ap (λ st. push v (record (cut_to st S) { frames = f2 ∷ fs; throws = throws_around j S.throws })) (keep_stack w.store (Temp v ∷ N) c.below)
-          ∙ ap (λ (z : State). push v (record z { frames = f2 ∷ fs; throws = throws_around j S.throws })) (pop_pic (f ∷ c.frames) (landings c) (Temp v ∷ N) c.below G w k.layout)
-          ∙ ap (λ ts. record (pic (f2 ∷ fs) c.outer (Temp v ∷ c.below) G w) { throws = ts }) (handlers_gone (length (f2 ∷ fs)) c.own c.outer (subst (λ z. OwnLands z c.own) lens own) (subst (λ z. OuterLands z c.outer) lens outer)) in
+      first
+      ∙ ap (λ z. push v (record (cut_to (keep z S.stack) S) { frames = f2 ∷ fs; throws = throws_around j S.throws })) b
+      ∙ ap (λ st. push v (record (cut_to st S) { frames = f2 ∷ fs; throws = throws_around j S.throws })) (keep_stack w.store (Temp v ∷ N) c.below)
+      ∙ ap (λ (z : State). push v (record z { frames = f2 ∷ fs; throws = throws_around j S.throws })) (pop_pic (f ∷ c.frames) (landings c) (Temp v ∷ N) c.below G w k.layout)
+      ∙ ap (λ ts. record (pic (f2 ∷ fs) c.outer (Temp v ∷ c.below) G w) { throws = ts }) (handlers_gone (length (f2 ∷ fs)) c.own c.outer (subst (λ z. OwnLands z c.own) lens own) (subst (λ z. OuterLands z c.outer) lens outer)) in
       record {
-        last = pic (f2 ∷ fs) c.outer (Temp v ∷ c.below) G w; ghost' = G; extends = extends_same G;
+        last = pic (f2 ∷ fs) c.outer (Temp v ∷ c.below) G w;
+        ghost' = G;
+        extends = extends_same G;
         comes = one_step g S (pic (f2 ∷ fs) c.outer (Temp v ∷ c.below) G w) done (return_falls v p p c f2 fs (Temp v ∷ (N ++ c.below)) (Temp v ∷ c.below) c.outer G w e is);
         holds = (refl, kept_on c.below k (lower (length w.store) N c.below k.layout));
       }
@@ -261,9 +267,9 @@ module _ (g : Given) (n d : ℕ) where
       let here = spot c p (p + 2) in
       one_step g S _
       (op_is g (o.JumpIfFalse (pos k)) c p (Temp v ∷ L) G w is
-       ∙ ap (λ t. cond (truth_of (heap_map built G.heap) t.0) (on_with here t.1 S) (jump here (pos k) (cut_to t.1 S))) (top_pic c (Temp v) L w h.framed)
-       ∙ ap (λ b. cond b (on_with here (stack_of w.store L) S) (jump here (pos k) (cut_to (stack_of w.store L) S))) (truth_same h.kept v)
-       ∙ either (truth_of w.heap v))
+      ∙ ap (λ t. cond (truth_of (heap_map built G.heap) t.0) (on_with here t.1 S) (jump here (pos k) (cut_to t.1 S))) (top_pic c (Temp v) L w h.framed)
+      ∙ ap (λ b. cond b (on_with here (stack_of w.store L) S) (jump here (pos k) (cut_to (stack_of w.store L) S))) (truth_same h.kept v)
+      ∙ either (truth_of w.heap v))
       (passes g c p (cond (truth_of w.heap v) (p + 2) (p + 2 + k)) (Temp v ∷ L) L G G w w is (if_ahead (truth_of w.heap v) p k) (omega arith))
     where
       either : (b : Bool) → cond b (on_with (spot c p (p + 2)) (stack_of w.store L) (at c p (Temp v ∷ L) G w)) (jump (spot c p (p + 2)) (pos k) (cut_to (stack_of w.store L) (at c p (Temp v ∷ L) G w))) ≡ at c (cond b (p + 2) (p + 2 + k)) L G w
@@ -280,12 +286,17 @@ module _ (g : Given) (n d : ℕ) where
       empty : (N : List Seat) → length N ≡ 0 → N ≡ []
       empty [] z = refl
       empty (x ∷ N) z = absurd (cc)
+
       none : (new : List Seat) → length new ≡ 0 → (q : GoneOn g n d c p1 c.scope c.words c.sight 0 L ρ w G s) → Reaches g s G (GoneOn g n d c p2 c.scope c.words c.sight 0 L ρ w)
       none new e q = record {
-        last = at c p2 L G w; ghost' = G; extends = extends_same G;
+        last = at c p2 L G w;
+        ghost' = G;
+        extends = extends_same G;
         comes = comes_then g (at_once g (q.is ∙ ap (λ N. at c p1 (N ++ L) G w) (empty q.new q.many))) (k G w);
         holds = record {
-          new = []; many = refl; is = refl;
+          new = [];
+          many = refl;
+          is = refl;
           fits = subst (λ N. Fits g n d c ρ (N ++ L) G w) (empty q.new q.many) q.fits;
           full = ap (λ N. length (N ++ L)) (sym (empty q.new q.many)) ∙ q.full;
         };
@@ -301,9 +312,13 @@ module _ (g : Given) (n d : ℕ) where
   more_goes c fr1 ws1 V1 p fr ws V k1 k2 N L m (GoesOn ρ) w G s q =
       let both = append_assoc q.new N L in
       record {
-        last = s; ghost' = G; comes = stays g s; extends = extends_same G;
+        last = s;
+        ghost' = G;
+        comes = stays g s;
+        extends = extends_same G;
         holds = record {
-          new = q.new ++ N; many = omega (arith, q.many, m, length-append q.new N);
+          new = q.new ++ N;
+          many = omega (arith, q.many, m, length-append q.new N);
           is = q.is ∙ ap (λ M. at c p M G w) (sym both);
           fits = subst (λ M. Fits g n d (scoped c fr ws V) ρ M G w) (sym both) q.fits;
           full = ap length both ∙ q.full;

@@ -50,14 +50,15 @@ module _ (g : Given) (n d : ℕ) (c : Ctx) (ρ : Env) (place : ℕ) (L : List Se
       let here = spot c place (place + 2) in
       one_step g S _
       (op_is g (o.JumpIfStackNotNull (pos k)) c place (Temp v ∷ L) G w is
-       ∙ ap (λ t. cond (is_null t.0) (on_with here S.stack S) (jump here (pos k) S)) (top_pic c (Temp v) L w h.framed)
-       ∙ ap (λ z. cond (is_null v) z (jump here (pos k) S)) (on_pic c place (place + 2) [] (Temp v ∷ L) G w h.kept.layout)
-       ∙ either (is_null v))
+      ∙ ap (λ t. cond (is_null t.0) (on_with here S.stack S) (jump here (pos k) S)) (top_pic c (Temp v) L w h.framed)
+      ∙ ap (λ z. cond (is_null v) z (jump here (pos k) S)) (on_pic c place (place + 2) [] (Temp v ∷ L) G w h.kept.layout)
+      ∙ either (is_null v))
       (passes g c place (cond (is_null v) (place + 2) (place + 2 + k)) (Temp v ∷ L) (Temp v ∷ L) G G w w is (further (is_null v)) (omega arith))
     where
       either : (b : Bool) → cond b (at c (place + 2) (Temp v ∷ L) G w) (jump (spot c place (place + 2)) (pos k) (at c place (Temp v ∷ L) G w)) ≡ at c (cond b (place + 2) (place + 2 + k)) (Temp v ∷ L) G w
       either true = refl
       either false = refl
+
       further : (b : Bool) → place < cond b (place + 2) (place + 2 + k)
       further true = omega arith
       further false = omega arith
@@ -70,6 +71,7 @@ module _ (g : Given) (n d : ℕ) (c : Ctx) (ρ : Env) (place : ℕ) (L : List Se
     where
       popped : Comes g (at c (place + 2) (Temp v ∷ L) G w) (at c (place + 3) L G w)
       popped = comes_to g (pop_step g n d c ρ (place + 2) L G w h v q has.2.0 (omega arith) u) (ap (λ p. at c p L G w) (omega arith))
+
       either : (b : Bool) → Run g n (landings c) (at c (cond b (place + 2) (place + 2 + (span y + 1))) (Temp v ∷ L) G w) G (ExpAt g n c q L) (cond b o2 (Gives v w))
       either true = run_after g n popped (extends_same G) second
       either false = gives g n (at_once g (ap (λ p. at c p (Temp v ∷ L) G w) (sym e))) (record { is = refl; kept = h.kept })
@@ -97,9 +99,9 @@ module _ (g : Given) (n d : ℕ) (again : Effect) (ih : Follows g again n) (c : 
       let end : p2 + 2 ≡ q = omega (arith, e, span-after code (MoreOp (o.CallLocal (length vs)) NoOp)) in
       exp_then g n (run p2 refl (has_front g.code place code (MoreOp (o.CallLocal (length vs)) NoOp) has) (under_less c.own (omega arith) u))
       (λ v w1 G1 x1 k1.
-          let h1 = fits_on h x1 (kept_temps vs L k1) in
-          subst (λ p. Run g n (landings c) (at c p2 (Temp v ∷ temps vs L) G1 w1) G1 (ExpAt g n c p L) (call_value again d v vs w1)) end
-          (call_runs g n d again ih c ρ p2 L vs v G1 w1 h1 at_call.0 (subst (λ p. Under p c.own) (sym end) u)))
+      let h1 = fits_on h x1 (kept_temps vs L k1) in
+      subst (λ p. Run g n (landings c) (at c p2 (Temp v ∷ temps vs L) G1 w1) G1 (ExpAt g n c p L) (call_value again d v vs w1)) end
+      (call_runs g n d again ih c ρ p2 L vs v G1 w1 h1 at_call.0 (subst (λ p. Under p c.own) (sym end) u)))
 
   native_called : (f : Option Native) (x : Word) → NativeOk f (length vs) → HasAt g.code place (native_code f (length vs)) → q ≡ place + span (native_code f (length vs)) → Run g n (landings c) (at c place (temps vs L) G w) G (ExpAt g n c q L) (mean.call_word d f vs w)
   native_called None x ok has e = absurd ok

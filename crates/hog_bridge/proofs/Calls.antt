@@ -117,10 +117,11 @@ bind_runs g n ups base captured fs ls (p ∷ ps) (v ∷ vs) acc words L G ρ w e
     } in
     let more = bind_runs g n ups base captured fs ls ps vs (Some p ∷ acc) (p ∷ words) (Var var ∷ L) G (named p w ρ) (declare v w) (omega arith) k1 in
     let both = append_one more.0 (Var var) L in
-    let end = bind ps vs (named p w ρ) (declare v w) in
-    (more.0 ++ Var var ∷ [],
-     becomes fs ls vs v L G w k.kept.layout k.kept.owners ∙ more.1 ∙ ap (λ M. pic fs ls M G end.1) both,
-     subst (λ M. Bounded g n ups base captured (with_params ps (Some p ∷ acc)) (onto ps (p ∷ words)) M G end.0 end.1) both more.2)
+    let end = bind ps vs (named p w ρ) (declare v w) in (
+      more.0 ++ Var var ∷ [],
+      becomes fs ls vs v L G w k.kept.layout k.kept.owners ∙ more.1 ∙ ap (λ M. pic fs ls M G end.1) both,
+      subst (λ M. Bounded g n ups base captured (with_params ps (Some p ∷ acc)) (onto ps (p ∷ words)) M G end.0 end.1) both more.2,
+    )
   where
     append_one : (N : List Seat) (x : Seat) (L : List Seat) → N ++ (x ∷ L) ≡ (N ++ x ∷ []) ++ L
     append_one [] x L = refl
@@ -133,8 +134,10 @@ lands_enter base base2 fn fn2 place fs N L own outer u o h = go own outer u o h
     frame_in : (l : Landing) → (l.frames ≡ fs → place ≤ l.target) → FrameIn l base fn fs → FrameIn l base2 fn2 (frame place base fn ∷ fs)
     frame_in l q (inl k) = inr ([], place, ap (λ b. frame place b fn ∷ fs) (sym k.0) ∙ ap (λ u. frame place l.base u ∷ fs) (sym k.1) ∙ ap (λ gs. frame place l.base l.function ∷ gs) (sym k.2), q k.2)
     frame_in l q (inr k) = inr (frame place base fn ∷ k.0, k.1, ap (λ gs. frame place base fn ∷ gs) k.2, k.3)
+
     top : (l : Landing) (ls : List Landing) → (l.frames ≡ fs → place ≤ l.target) → Lands base fn fs L (l ∷ ls) → Lands base2 fn2 (frame place base fn ∷ fs) (N ++ L) (l ∷ ls)
     top l ls q h = (frame_in l q h.0, (N ++ h.1.0, ap (λ M. N ++ M) h.1.1 ∙ sym (append_assoc N h.1.0 l.layout)), h.2)
+
     go : (own outer : List Landing) → Under place own → OuterLands (length fs) outer → Lands base fn fs L (own ++ outer) → Lands base2 fn2 (frame place base fn ∷ fs) (N ++ L) (own ++ outer)
     go [] [] u o h = h
     go [] (l ∷ ls) u o h = top l ls (λ same. let m = ap (length {A = Frame}) same in let o2 = o in absurd (omega arith)) h
@@ -186,16 +189,18 @@ module _ (g : Given) (n d : ℕ) where
       let cell : FunCell = record { place = place + header; captured = got.0 } in
       let fun : Closure = record { params = ps; body = b; env = ρ } in
       let ok : FunOk g.code (G.owners ++ t.more) (fun, cell) = record {
-        ups = xs; code_at = has.1; params = params_found place name (length ps) body caps has.0;
+        ups = xs;
+        code_at = has.1;
+        params = params_found place name (length ps) body caps has.0;
         calls = subst (λ V. BodyOk (onto ps V) b) (sym h.sight) good;
         sees = taken_sees w.store L f c.captured height high fr ρ c.words words G.owners got sub h.sees t;
       } in
       let go_on : Val → State → State = λ v s1. record (on_and_push (spot c place (place + size code)) s1.stack v s1) { upvalues = got.1 } in
       let acts : step g.fixed g.code S ≡ on_outcome (outcome_map built (made (Fun (fun, cell)) G.heap w.units)) go_on S =
-          op_is g code c place L G w has.0
-          ∙ ap (λ captured. let numbers = capture_all height f captured caps (ups_of L w.store G.owners) in
-                on_outcome (made (Fun (record { place = place + header; captured = numbers.0 })) (heap_map built G.heap) w.units) (λ v s1. record (on_and_push (spot c place (place + size code)) s1.stack v s1) { upvalues = numbers.1 }) S) (captured_is g n d c place L G w c.function c.captured h.captured)
-          ∙ ap (λ z. on_outcome z go_on S) (made-heap_map built (Fun (fun, cell)) G.heap w.units) in
+      op_is g code c place L G w has.0
+      ∙ ap (λ captured. let numbers = capture_all height f captured caps (ups_of L w.store G.owners) in
+      on_outcome (made (Fun (record { place = place + header; captured = numbers.0 })) (heap_map built G.heap) w.units) (λ v s1. record (on_and_push (spot c place (place + size code)) s1.stack v s1) { upvalues = numbers.1 }) S) (captured_is g n d c place L G w c.function c.captured h.captured)
+      ∙ ap (λ z. on_outcome z go_on S) (made-heap_map built (Fun (fun, cell)) G.heap w.units) in
       let one : made (Fun fun) w.heap w.units ≡ outcome_map meant (made (Fun (fun, cell)) G.heap w.units) = ap (λ z. made (Fun fun) z w.units) h.kept.heap ∙ made-heap_map meant (Fun (fun, cell)) G.heap w.units in
       let twin : CellOf Twin = Fun (fun, cell) in
       let units = w.units + cost_of_cell twin in
@@ -207,19 +212,26 @@ module _ (g : Given) (n d : ℕ) where
       let keeps = keeps_append G.heap (twin ∷ []) in
       let k = h.kept in
       let kept : Kept g n L G1 w1 = record {
-        layout = k.layout; owners = t.owned; heap = refl; turns = k.turns; texts = λ p t x. keeps.texts _ t (k.texts p t x);
+        layout = k.layout;
+        owners = t.owned;
+        heap = refl;
+        turns = k.turns;
+        texts = λ p t x. keeps.texts _ t (k.texts p t x);
         funs = all_append (FunOk g.code (G.owners ++ t.more)) G.heap (twin ∷ []) (funs_on g.code G.owners t.more G.heap k.funs) (ok, tt);
       } in
       subst (λ z. Run g n (landings c) S G (ExpAt g n c q L) (m.of_outcome z w)) (sym one)
       (made_either twin G.heap w.units (λ (z : Outcome Twin Val). step g.fixed g.code S ≡ on_outcome (outcome_map built z) go_on S → Run g n (landings c) S G (ExpAt g n c q L) (m.of_outcome (outcome_map meant z) w))
       (λ acts1.
-          let done = acts1 ∙ ap (λ (z : State). record (push v z) { upvalues = got.1 }) (on_pic c place behind [] L (record G { heap = h1 }) w1 k.layout)
-              ∙ ap (λ us. record (at c behind (Temp v ∷ L) G1 w1) { upvalues = us }) t.is in
-          record { ends = record {
-            last = at c behind (Temp v ∷ L) G1 w1; ghost' = G1;
-            comes = one_step g S (at c behind (Temp v ∷ L) G1 w1) done (passes g c place behind L (Temp v ∷ L) G G1 w w1 has.0 (omega (arith, has.2, has.3)) (omega arith));
-            extends = record { owners = (t.more, refl); heap = keeps };
-            holds = record { is = ap (λ p. at c p (Temp v ∷ L) G1 w1) has.2; kept = kept };
-          } })
+      let done = acts1 ∙ ap (λ (z : State). record (push v z) { upvalues = got.1 }) (on_pic c place behind [] L (record G { heap = h1 }) w1 k.layout)
+      ∙ ap (λ us. record (at c behind (Temp v ∷ L) G1 w1) { upvalues = us }) t.is in
+      record {
+        ends = record {
+          last = at c behind (Temp v ∷ L) G1 w1;
+          ghost' = G1;
+          comes = one_step g S (at c behind (Temp v ∷ L) G1 w1) done (passes g c place behind L (Temp v ∷ L) G G1 w w1 has.0 (omega (arith, has.2, has.3)) (omega arith));
+          extends = record { owners = (t.more, refl); heap = keeps };
+          holds = record { is = ap (λ p. at c p (Temp v ∷ L) G1 w1) has.2; kept = kept };
+        };
+      })
       (λ acts1. spends g n d c place L G w (ready_with has.0 (omega (arith, has.3)) u h.framed h.kept) m.MemorySpent acts1)
       acts)

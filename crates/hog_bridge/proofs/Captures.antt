@@ -27,6 +27,7 @@ place_inj (Var y ∷ L) a b p e f = go (place_inj L a b p) (eqb_tells y a) (eqb_
   where
     low : (z : ℕ) → place_of L z ≡ Some p → p < length L
     low z g = (placed [] L z p g).0
+
     go : (place_of L a ≡ Some p → place_of L b ≡ Some p → a ≡ b) → (((y == a) ≡ true) × (y ≡ a)) ⊎ (((y == a) ≡ false) × (y ≢ a)) → (((y == b) ≡ true) × (y ≡ b)) ⊎ (((y == b) ≡ false) × (y ≢ b)) → a ≡ b
     go ih (inl h) (inl k) = sym h.1 ∙ k.1
     go ih (inl h) (inr k) =
@@ -55,6 +56,7 @@ open_is store L p x (o ∷ os) e = go (place_of L o) refl (open_is store L p x o
             let qp : q ≡ p = cc in
             let t : (q == p) ≡ true = grind (arith, nat_tests) in
             rw (t, h.0) refl
+
         other : ((o == x) ≡ false) × (o ≢ x) → cond (q == p) (Some 0) (one_on (find_open (ups_of L store os) p)) ≡ cond (o == x) (Some 0) (one_on (owner_of os x))
         other h =
             let ne : q ≢ p = λ s. h.1 (place_inj L o x p (subst (λ z. place_of L o ≡ Some z) s f) e) in
@@ -84,8 +86,10 @@ found (y ∷ xs) x k e = ⊎_elim here (there (λ j. found xs x j)) (eqb_tells y
     up_some : (o : Option ℕ) (k : ℕ) → one_on o ≡ Some k → (j : ℕ) × (o ≡ Some j) × (k ≡ suc j)
     up_some None k e = absurd (cc)
     up_some (Some j) k e = (j, refl, let q : j + 1 ≡ k = cc in omega (arith, q))
+
     here : ((y == x) ≡ true) × (y ≡ x) → slice_get (y ∷ xs) k ≡ Some x
     here h = let f : Some 0 ≡ Some k = rw h.0 at e in let q : 0 ≡ k = cc in subst (λ j. slice_get (y ∷ xs) j ≡ Some x) q (ap Some h.1)
+
     there : ((j : ℕ) → owner_of xs x ≡ Some j → slice_get xs j ≡ Some x) → ((y == x) ≡ false) × (y ≢ x) → slice_get (y ∷ xs) k ≡ Some x
     there ih h = let f : one_on (owner_of xs x) ≡ Some k = rw h.0 at e in
         let u = up_some (owner_of xs x) k f in
@@ -117,12 +121,19 @@ module _ (store : List Val) (L : List Seat) (f : Frame) (captured : List ℕ) (h
   local_one : (p x : ℕ) (owners : List ℕ) (q : Option ℕ) → Distinct (length store) L → Owned (length store) owners → place_of L x ≡ Some p → owner_of owners x ≡ q → One store L owners (Some x) (or_opened p (ups_of L store owners) q)
   local_one p x owners (Some k) d o e f =
       let nil = append-nil owners in
-      record { more = []; is = ap (ups_of L store) (sym nil); var = x; known = refl;
-        owner = subst (λ xs. slice_get xs k ≡ Some x) (sym nil) (found owners x k f); owned = subst (Owned (length store)) (sym nil) o }
+      record {
+        more = [];
+        is = ap (ups_of L store) (sym nil);
+        var = x;
+        known = refl;
+        owner = subst (λ xs. slice_get xs k ≡ Some x) (sym nil) (found owners x k f);
+        owned = subst (Owned (length store)) (sym nil) o;
+      }
   local_one p x owners None d o e f = record {
     more = x ∷ [];
     is = ap (λ u. ups_of L store owners ++ u ∷ []) (ap (λ q. up_of_place q (read store x)) (sym e)) ∙ sym (ups_app L store owners (x ∷ []));
-    var = x; known = refl;
+    var = x;
+    known = refl;
     owner = ap (λ k. slice_get (owners ++ x ∷ []) k) (length-map owners (λ y. up_of L store y)) ∙ get_seam owners x;
     owned = owned_app (length store) owners x o f (placed_below (length store) L x p d e);
   }
@@ -139,8 +150,14 @@ module _ (store : List Val) (L : List Seat) (f : Frame) (captured : List ℕ) (h
   cap_one None (Some j) (Some x) owners s d o k =
       let nil = append-nil owners in
       subst (λ q. One store L owners (Some x) (or_closed (ups_of L store owners) q)) (sym s.1)
-      (record { more = []; is = ap (ups_of L store) (sym nil); var = x; known = refl;
-        owner = subst (λ xs. slice_get xs s.0 ≡ Some x) (sym nil) s.2; owned = subst (Owned (length store)) (sym nil) o })
+      (record {
+        more = [];
+        is = ap (ups_of L store) (sym nil);
+        var = x;
+        known = refl;
+        owner = subst (λ xs. slice_get xs s.0 ≡ Some x) (sym nil) s.2;
+        owned = subst (Owned (length store)) (sym nil) o;
+      })
   cap_one None (Some j) None owners s d o k = absurd s
   cap_one None None v owners s d o k = absurd (cc)
 
@@ -160,7 +177,9 @@ pub record Taken (store : List Val) (L : List Seat) (ρ : Env) (owners : List �
 module _ (store : List Val) (L : List Seat) (f : Frame) (captured : List ℕ) (height : ℕ) (high : length L ≤ height) (fr : names.Frame) (ρ : Env) (ws : List Word) where
   pub take_all : (xs : List Word) (owners : List ℕ) → Sees ws fr ρ f.base captured L owners → Distinct (length store) L → Owned (length store) owners → ((x : Word) → In x xs → In x ws × (knows fr x ≡ true)) → Taken store L ρ owners xs (capture_all height f captured (captures_of fr xs) (ups_of L store owners))
   take_all [] owners s d o k = record {
-    more = []; is = ap (ups_of L store) (sym (append-nil owners)); owned = subst (Owned (length store)) (sym (append-nil owners)) o;
+    more = [];
+    is = ap (ups_of L store) (sym (append-nil owners));
+    owned = subst (Owned (length store)) (sym (append-nil owners)) o;
     sees = λ x i. absurd i;
   }
   take_all (y ∷ ys) owners s d o k =
@@ -171,7 +190,7 @@ module _ (store : List Val) (L : List Seat) (f : Frame) (captured : List ℕ) (h
       let s1 = sees_on ws fr ρ f.base captured L owners one.more s in
       let rest0 = take_all ys (owners ++ one.more) s1 d one.owned (λ x i. k x (inr i)) in
       let rest : Taken store L ρ (owners ++ one.more) ys (capture_all height f captured (captures_of fr ys) got1.1) =
-          subst (λ us. Taken store L ρ (owners ++ one.more) ys (capture_all height f captured (captures_of fr ys) us)) (sym one.is) rest0 in
+      subst (λ us. Taken store L ρ (owners ++ one.more) ys (capture_all height f captured (captures_of fr ys) us)) (sym one.is) rest0 in
       let both = append_assoc owners one.more rest.more in
       let numbers = (capture_all height f captured (captures_of fr ys) got1.1).0 in
       record {
@@ -188,10 +207,12 @@ module _ (store : List Val) (L : List Seat) (f : Frame) (captured : List ℕ) (h
       older : (y : Word) (ys : List Word) (x : Word) → y ≢ x → (y ≡ x) ⊎ In x ys → In x ys
       older y ys x n (inl e) = absurd (n e)
       older y ys x n (inr i) = i
+
       at_head : (y : Word) (ys : List Word) (x : Word) (u : ℕ) (us : List ℕ) (var : ℕ) (os : List ℕ) → (bytes_eq y x ≡ true) × (y ≡ x) → find_var ρ y ≡ Some var → slice_get os u ≡ Some var → UpSees (find_up (y ∷ ys) x) (find_var ρ x) (u ∷ us) os
       at_head y ys x u us var os h known owner =
           let e : find_var ρ x ≡ Some var = subst (λ z. find_var ρ z ≡ Some var) h.1 known in
           rw (h.0, e) (u, refl, owner)
+
       at_tail : (y : Word) (ys : List Word) (x : Word) (u : ℕ) (us os : List ℕ) → bytes_eq y x ≡ false → UpSees (find_up ys x) (find_var ρ x) us os → UpSees (find_up (y ∷ ys) x) (find_var ρ x) (u ∷ us) os
       at_tail y ys x u us os f h = rw f (shift (find_up ys x) (find_var ρ x) u us os h)
 
@@ -209,7 +230,7 @@ module _ (store : List Val) (L : List Seat) (f : Frame) (captured : List ℕ) (h
       go true e = t.sees x (known_captured fr words x i e)
       go false e = ⊎_elim
           (λ (none : find_up (captured_of fr words) x ≡ None). subst (λ j. UpSees j (find_var ρ x) got.0 (owners ++ t.more)) (sym none)
-              (unseen (find_local fr.locals x) (find_up fr.ups x) (find_var ρ x) owners got.0 (owners ++ t.more) e (s x (sub.all x i))))
+          (unseen (find_local fr.locals x) (find_up fr.ups x) (find_var ρ x) owners got.0 (owners ++ t.more) e (s x (sub.all x i))))
           (λ k. let r = captured_known fr words x k in let r1 = r.1 in absurd (cc))
           (found_in (captured_of fr words) x (find_up (captured_of fr words) x) refl)
 
@@ -219,7 +240,10 @@ module _ (store : List Val) (L : List Seat) (f : Frame) (captured : List ℕ) (h
 -- the functions that were there see what they saw
 pub fun_on : (code : List Slot) (owners more : List ℕ) (t : Twin) → FunOk code owners t → FunOk code (owners ++ more) t
 fun_on code owners more t k = record {
-  ups = k.ups; code_at = k.code_at; params = k.params; calls = k.calls;
+  ups = k.ups;
+  code_at = k.code_at;
+  params = k.params;
+  calls = k.calls;
   sees = λ x i. up_sees_on (find_up k.ups x) (find_var t.0.env x) t.1.captured owners more (k.sees x i);
 }
 

@@ -51,9 +51,11 @@ mutual
       let assoc : pre ++ ((one ++ more) ++ post) ≡ pre ++ (one ++ (more ++ post)) = ap (λ xs. pre ++ xs) (append_assoc one more post) in
       let assoc2 : (pre ++ one) ++ (more ++ post) ≡ pre ++ (one ++ (more ++ post)) = append_assoc pre one (more ++ post) in
       let n : length (pre ++ one) ≡ length pre + size o = length-append pre one ∙ ap (λ k. length pre + k) (op_length o) in
-      subst (λ c. HasAt c (length pre) (MoreOp o os)) (sym assoc)
-      (begins_at o pre (more ++ post), op_inner o pre (more ++ post),
-       subst (λ c. HasAt c (length pre + size o) os) assoc2 (subst (λ k. HasAt ((pre ++ one) ++ (more ++ post)) k os) n (ops_at os (pre ++ one) post)))
+      subst (λ c. HasAt c (length pre) (MoreOp o os)) (sym assoc) (
+        begins_at o pre (more ++ post),
+        op_inner o pre (more ++ post),
+        subst (λ c. HasAt c (length pre + size o) os) assoc2 (subst (λ k. HasAt ((pre ++ one) ++ (more ++ post)) k os) n (ops_at os (pre ++ one) post)),
+      )
 
   op_inner : (o : Op) (pre post : List Slot) → InnerAt (pre ++ (op_slots o ++ post)) (length pre) o
   op_inner (Callable name params body captures) pre post =
@@ -62,7 +64,7 @@ mutual
       let n : length (pre ++ five) ≡ length pre + header = length-append pre five in
       let inner : HasAt ((pre ++ five) ++ (slots body ++ (tail ++ post))) (length (pre ++ five)) body = ops_at body (pre ++ five) (tail ++ post) in
       let assoc : (pre ++ five) ++ (slots body ++ (tail ++ post)) ≡ pre ++ (op_slots (Callable name params body captures) ++ post) =
-          append_assoc pre five (slots body ++ (tail ++ post)) ∙ ap (λ xs. pre ++ (five ++ xs)) (sym (append_assoc (slots body) tail post)) in
+      append_assoc pre five (slots body ++ (tail ++ post)) ∙ ap (λ xs. pre ++ (five ++ xs)) (sym (append_assoc (slots body) tail post)) in
       subst (λ c. HasAt c (length pre + header) body) assoc (subst (λ k. HasAt ((pre ++ five) ++ (slots body ++ (tail ++ post))) k body) n inner)
   op_inner o pre post = tt
 

@@ -93,28 +93,28 @@ module _ (g : Given) (n d : ℕ) (c : Ctx) (ρ : Env) (L : List Seat) (v : Val) 
       let end : q ≡ p3 + 2 = omega (arith, e, span-after KC (VC ⊕ (LC ⊕ IC)), span-after VC (LC ⊕ IC), span-after LC IC) in
       run_with g n (keys_copied k d v w) _ go (keys_run k p p1 G w hasK refl (under_less c.own (omega (arith, end)) u) h)
       (λ keys w1 G1 s1 e1 x1 at1.
-          let T = key_seats k keys (Temp v ∷ L) in
-          let h1 = fits_on h x1 at1.kept in
-          let t1 = fits_keys k keys v h1 in
-          let g1 = get_step g n d c ρ p1 T G1 w1 t1 first v q has1.0 (base_seat k keys) (omega (arith, end)) u in
-          run_after g n (comes_then g (at_once g at1.is) g1) (extends_same G1)
-          (run_with g n (call_native d Values (v ∷ []) w1) _ go (native_call_runs g n d c ρ (p1 + 2) T G1 w1 t1 p2 (under_less c.own (omega (arith, end)) u) Values (v ∷ []) has1.2.0 (omega arith))
-          (λ values w2 G2 s2 e2 x2 at2.
-              let t2 = fits_on t1 x2 at2.kept in
-              let list : GotList (Gives values w2) = subst GotList e2 (values_got d (v ∷ []) w1) in
-              let items = list.0 in
-              let lt : length T ≡ c.base + (first + key_count k + 1) = omega (arith, length-keys k keys (Temp v ∷ L), full) in
-              let seat : seat_at (Temp values ∷ T) (c.base + (first + key_count k + 1)) ≡ Some (Temp values) = ap (seat_at (Temp values ∷ T)) (sym lt) ∙ seat_top (Temp values) T in
-              let g2 = get_step g n d c ρ p2 (Temp values ∷ T) G2 w2 (fits_push values t2) (first + key_count k + 1) values q has2.0 seat (omega (arith, end)) u in
-              run_after g n (comes_then g (at_once g at2.is) g2) (extends_same G2)
-              (run_with g n (call_native d Length (values ∷ []) w2) _ go (native_call_runs g n d c ρ (p2 + 2) (Temp values ∷ T) G2 w2 (fits_push values t2) p3 (under_less c.own (omega (arith, end)) u) Length (values ∷ []) has2.2.0 (omega arith))
-              (λ size w3 G3 s3 e3 x3 at3.
-                  let counted : GotCount (length items) (call_native d Length (values ∷ []) w2) = subst (λ z. GotCount (length items) (call_native d Length (z ∷ []) w2)) (sym list.1.1) (length_got d list.1.0 w2 items list.1.2) in
-                  let sized : size ≡ Int (pos (length items)) = subst (GotCount (length items)) e3 counted in
-                  let t3 = fits_on (fits_push values t2) x3 at3.kept in
-                  let i1 = integer_step g n d c ρ p3 (Temp size ∷ Temp values ∷ T) G3 w3 (fits_push size t3) (pos 1) q has3.0 (omega (arith, end)) u in
-                  let h3 = fits_on h (extends_then x1 (extends_then x2 x3)) (kept_keys k keys v L (kept_on T at3.kept at3.kept.layout)) in
-                  let there : p3 + 2 ≡ q = sym end in
-                  run_after g n (comes_then g (at_once g at3.is) (comes_to g i1 (ap (λ z. at c z (Temp (Int (pos 1)) ∷ Temp size ∷ Temp values ∷ T) G3 w3) there))) (extends_same G3)
-                  (subst (λ z. Run g n (landings c) (at c q (Temp (Int (pos 1)) ∷ Temp z ∷ Temp values ∷ T) G3 w3) G3 P2 (go (record { key = k; value = x; keys = keys; values = values; size = number_in z }) w3)) (sym sized)
-                  (next keys values (length items) w3 G3 list.2 (extends_then x1 (extends_then x2 x3)) h3)))))))
+      let T = key_seats k keys (Temp v ∷ L) in
+      let h1 = fits_on h x1 at1.kept in
+      let t1 = fits_keys k keys v h1 in
+      let g1 = get_step g n d c ρ p1 T G1 w1 t1 first v q has1.0 (base_seat k keys) (omega (arith, end)) u in
+      run_after g n (comes_then g (at_once g at1.is) g1) (extends_same G1)
+      (run_with g n (call_native d Values (v ∷ []) w1) _ go (native_call_runs g n d c ρ (p1 + 2) T G1 w1 t1 p2 (under_less c.own (omega (arith, end)) u) Values (v ∷ []) has1.2.0 (omega arith))
+      (λ values w2 G2 s2 e2 x2 at2.
+      let t2 = fits_on t1 x2 at2.kept in
+      let list : GotList (Gives values w2) = subst GotList e2 (values_got d (v ∷ []) w1) in
+      let items = list.0 in
+      let lt : length T ≡ c.base + (first + key_count k + 1) = omega (arith, length-keys k keys (Temp v ∷ L), full) in
+      let seat : seat_at (Temp values ∷ T) (c.base + (first + key_count k + 1)) ≡ Some (Temp values) = ap (seat_at (Temp values ∷ T)) (sym lt) ∙ seat_top (Temp values) T in
+      let g2 = get_step g n d c ρ p2 (Temp values ∷ T) G2 w2 (fits_push values t2) (first + key_count k + 1) values q has2.0 seat (omega (arith, end)) u in
+      run_after g n (comes_then g (at_once g at2.is) g2) (extends_same G2)
+      (run_with g n (call_native d Length (values ∷ []) w2) _ go (native_call_runs g n d c ρ (p2 + 2) (Temp values ∷ T) G2 w2 (fits_push values t2) p3 (under_less c.own (omega (arith, end)) u) Length (values ∷ []) has2.2.0 (omega arith))
+      (λ size w3 G3 s3 e3 x3 at3.
+      let counted : GotCount (length items) (call_native d Length (values ∷ []) w2) = subst (λ z. GotCount (length items) (call_native d Length (z ∷ []) w2)) (sym list.1.1) (length_got d list.1.0 w2 items list.1.2) in
+      let sized : size ≡ Int (pos (length items)) = subst (GotCount (length items)) e3 counted in
+      let t3 = fits_on (fits_push values t2) x3 at3.kept in
+      let i1 = integer_step g n d c ρ p3 (Temp size ∷ Temp values ∷ T) G3 w3 (fits_push size t3) (pos 1) q has3.0 (omega (arith, end)) u in
+      let h3 = fits_on h (extends_then x1 (extends_then x2 x3)) (kept_keys k keys v L (kept_on T at3.kept at3.kept.layout)) in
+      let there : p3 + 2 ≡ q = sym end in
+      run_after g n (comes_then g (at_once g at3.is) (comes_to g i1 (ap (λ z. at c z (Temp (Int (pos 1)) ∷ Temp size ∷ Temp values ∷ T) G3 w3) there))) (extends_same G3)
+      (subst (λ z. Run g n (landings c) (at c q (Temp (Int (pos 1)) ∷ Temp z ∷ Temp values ∷ T) G3 w3) G3 P2 (go (record { key = k; value = x; keys = keys; values = values; size = number_in z }) w3)) (sym sized)
+      (next keys values (length items) w3 G3 list.2 (extends_then x1 (extends_then x2 x3)) h3)))))))

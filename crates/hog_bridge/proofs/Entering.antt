@@ -51,8 +51,16 @@ use Rattle.hog_bridge.proofs.Calls.{pad, bind_pad, length-pad, stack_pad, ups_ov
 -- the context of a callee
 abbrev pub callee : Ctx → ℕ → List Seat → ℕ → List ℕ → List Word → List Word → List Word → List Word → Ctx
 callee c behind L cell captured ps ups words V = record {
-  base = length L; function = Some cell; captured = captured; frames = frame behind c.base c.function ∷ c.frames; own = []; outer = landings c; below = L;
-  scope = inner_frame ps ups; words = words; sight = V;
+  base = length L;
+  function = Some cell;
+  captured = captured;
+  frames = frame behind c.base c.function ∷ c.frames;
+  own = [];
+  outer = landings c;
+  below = L;
+  scope = inner_frame ps ups;
+  words = words;
+  sight = V;
 }
 
 module _ (g : Given) (n d : ℕ) where
@@ -117,15 +125,22 @@ module _ (g : Given) (n d : ℕ) (again : Effect) (ih : Follows g again n) (c : 
       let c2 = callee c behind L k cell.captured ps ok.ups words V in
       let k0 : Bounded g t ok.ups (length L) cell.captured [] free L G fun.env w1 = record {
         kept = record { layout = h.kept.layout; owners = h.kept.owners; heap = h.kept.heap; funs = h.kept.funs; texts = h.kept.texts; turns = omega (arith, h.kept.turns) };
-        sees = ok.sees; full = omega arith;
+        sees = ok.sees;
+        full = omega arith;
       } in
       let b = bind_runs g t ok.ups (length L) cell.captured (frame cell.place (length L) (Some k) ∷ c2.frames) (landings c) ps args [] free L G fun.env w1 (length-pad ps vs few) k0 in
       let to = bind ps args fun.env w1 in
       let fits2 : Fits g t (suc d) c2 to.0 (b.0 ++ L) G to.1 = record {
-        kept = b.2.kept; sees = b.2.sees; captured = ((fun, cell), found, refl); sight = bind_sight ps args fun.env w1;
+        kept = b.2.kept;
+        sees = b.2.sees;
+        captured = ((fun, cell), found, refl);
+        sight = bind_sight ps args fun.env w1;
         framed = record {
           lands = lands_enter c.base (length L) c.function (Some k) behind c.frames b.0 L c.own c.outer u h.framed.outer h.framed.lands;
-          floor = (b.0, refl); base = refl; own = tt; depth = ap suc h.framed.depth;
+          floor = (b.0, refl);
+          base = refl;
+          own = tt;
+          depth = ap suc h.framed.depth;
           outer = outer_enter (length c.frames) c.own c.outer h.framed.own h.framed.outer;
         };
       } in
@@ -160,7 +175,7 @@ module _ (g : Given) (n d : ℕ) (again : Effect) (ih : Follows g again n) (c : 
     function_runs : step g.fixed g.code S ≡ vm.call_function here (length vs) k cell (unwrap_or (params_at g.code cell.place) 0) rest S → Run g n (landings c) S G (ExpAt g n c behind L) (mean.call_function again d fun vs w)
     function_runs first = count_runs (nat_lt (length fun.params) (length vs)) refl
         (first ∙ ap (λ p. vm.call_function here (length vs) k cell (unwrap_or p 0) rest S) ok.params
-         ∙ ap (λ j. cond (nat_lt (length fun.params) (length vs)) (throw_kind ArgumentError S) (cond (nat_lt j max_depth) (with_turn (vm.enter here (length vs) k cell (length fun.params) rest) S) (cond (nat_lt w.turns max_turns) (ends end.TooDeep S) (ends end.TurnsSpent S)))) (sym h.framed.depth))
+        ∙ ap (λ j. cond (nat_lt (length fun.params) (length vs)) (throw_kind ArgumentError S) (cond (nat_lt j max_depth) (with_turn (vm.enter here (length vs) k cell (length fun.params) rest) S) (cond (nat_lt w.turns max_turns) (ends end.TooDeep S) (ends end.TurnsSpent S)))) (sym h.framed.depth))
 
   -- what a cell holds, on both sides
   cell_runs : (k : ℕ) (a : Option (CellOf Twin)) → slice_get G.heap k ≡ a → step g.fixed g.code S ≡ call_found g.code here (length vs) k (option_and_then function_in (option_map (cell_map built) a)) rest S → Run g n (landings c) S G (ExpAt g n c behind L) (mean.call_cell again d (option_map (cell_map meant) a) vs w)

@@ -89,9 +89,9 @@ module _ (g : Given) (n d : ℕ) (again : Effect) (ih : Follows g again n) where
         let end : p1 + 2 + 1 ≡ q = omega (arith, e, span-after cx rest) in
         exp_then g n (exp_runs x c ρ p p1 L G w refl (has_front g.code p cx rest has) sub ok h (under_less c.own (omega arith) u))
         (λ y w1 G1 x1 k1.
-            let h1 = fits_on h x1 k1 in
-            run_after g n (integer_step g n d c ρ p1 (Temp y ∷ L) G1 w1 (fits_push y h1) (pos 0) q at_op.0 (omega arith) u) (extends_same G1)
-            (minus_runs g n d c ρ (p1 + 2) L G1 w1 h1 q u y at_op.2.0 end))
+        let h1 = fits_on h x1 k1 in
+        run_after g n (integer_step g n d c ρ p1 (Temp y ∷ L) G1 w1 (fits_push y h1) (pos 0) q at_op.0 (omega arith) u) (extends_same G1)
+        (minus_runs g n d c ρ (p1 + 2) L G1 w1 h1 q u y at_op.2.0 end))
     exp_runs (Not x) c ρ p q L G w e has sub ok h u =
         let cx = exp_code c.scope x in
         let at_op = (has_back g.code p cx (MoreOp o.Not NoOp) has).0 in
@@ -107,9 +107,9 @@ module _ (g : Given) (n d : ℕ) (again : Effect) (ih : Follows g again n) where
         let end : p2 + 2 ≡ q = two_end g p q cx cy op e in
         exp_then g n (exp_runs x c ρ p p1 L G w refl (has_front g.code p cx (cy ⊕ MoreOp op NoOp) has) (sub_left (exp_frees true x) (exp_frees true y) sub) ok.0 h (under_less c.own (omega arith) u))
         (λ a w1 G1 x1 k1.
-            let h1 = fits_on h x1 k1 in
-            exp_then g n (exp_runs y c ρ p1 p2 (Temp a ∷ L) G1 w1 refl (has_front g.code p1 cy (MoreOp op NoOp) has1) (sub_right (exp_frees true x) (exp_frees true y) sub) ok.1 (fits_push a h1) (under_less c.own (omega arith) u))
-            (λ z w2 G2 x2 k2. or_runs g n d c ρ p2 L G2 w2 (fits_on h1 x2 (kept_on L k2 k2.layout)) q u a z at_op end))
+        let h1 = fits_on h x1 k1 in
+        exp_then g n (exp_runs y c ρ p1 p2 (Temp a ∷ L) G1 w1 refl (has_front g.code p1 cy (MoreOp op NoOp) has1) (sub_right (exp_frees true x) (exp_frees true y) sub) ok.1 (fits_push a h1) (under_less c.own (omega arith) u))
+        (λ z w2 G2 x2 k2. or_runs g n d c ρ p2 L G2 w2 (fits_on h1 x2 (kept_on L k2 k2.layout)) q u a z at_op end))
     exp_runs (Binary b.And x y) c ρ p q L G w e has sub ok h u =
         let cx = exp_code c.scope x in let cy = exp_code c.scope y in
         let op = o.And 2 in
@@ -119,9 +119,9 @@ module _ (g : Given) (n d : ℕ) (again : Effect) (ih : Follows g again n) where
         let end : p2 + 2 ≡ q = two_end g p q cx cy op e in
         exp_then g n (exp_runs x c ρ p p1 L G w refl (has_front g.code p cx (cy ⊕ MoreOp op NoOp) has) (sub_left (exp_frees true x) (exp_frees true y) sub) ok.0 h (under_less c.own (omega arith) u))
         (λ a w1 G1 x1 k1.
-            let h1 = fits_on h x1 k1 in
-            exp_then g n (exp_runs y c ρ p1 p2 (Temp a ∷ L) G1 w1 refl (has_front g.code p1 cy (MoreOp op NoOp) has1) (sub_right (exp_frees true x) (exp_frees true y) sub) ok.1 (fits_push a h1) (under_less c.own (omega arith) u))
-            (λ z w2 G2 x2 k2. and_runs g n d c ρ p2 L G2 w2 (fits_on h1 x2 (kept_on L k2 k2.layout)) q u a z at_op end))
+        let h1 = fits_on h x1 k1 in
+        exp_then g n (exp_runs y c ρ p1 p2 (Temp a ∷ L) G1 w1 refl (has_front g.code p1 cy (MoreOp op NoOp) has1) (sub_right (exp_frees true x) (exp_frees true y) sub) ok.1 (fits_push a h1) (under_less c.own (omega arith) u))
+        (λ z w2 G2 x2 k2. and_runs g n d c ρ p2 L G2 w2 (fits_on h1 x2 (kept_on L k2 k2.layout)) q u a z at_op end))
     exp_runs (Binary op x y) c ρ p q L G w e has sub ok h u =
         let cx = exp_code c.scope x in let cy = exp_code c.scope y in
         let code = operator_op op in
@@ -131,9 +131,9 @@ module _ (g : Given) (n d : ℕ) (again : Effect) (ih : Follows g again n) where
         let end : p2 + 1 ≡ q = two_end g p q cy cx code e in
         exp_then g n (exp_runs y c ρ p p1 L G w refl (has_front g.code p cy (cx ⊕ MoreOp code NoOp) has) (sub_right (exp_frees true x) (exp_frees true y) sub) ok.1 h (under_less c.own (omega arith) u))
         (λ z w1 G1 x1 k1.
-            let h1 = fits_on h x1 k1 in
-            exp_then g n (exp_runs x c ρ p1 p2 (Temp z ∷ L) G1 w1 refl (has_front g.code p1 cx (MoreOp code NoOp) has1) (sub_left (exp_frees true x) (exp_frees true y) sub) ok.0 (fits_push z h1) (under_less c.own (omega arith) u))
-            (λ a w2 G2 x2 k2. operator_runs g n d c ρ p2 L G2 w2 (fits_on h1 x2 (kept_on L k2 k2.layout)) a z q end u op refl at_op))
+        let h1 = fits_on h x1 k1 in
+        exp_then g n (exp_runs x c ρ p1 p2 (Temp z ∷ L) G1 w1 refl (has_front g.code p1 cx (MoreOp code NoOp) has1) (sub_left (exp_frees true x) (exp_frees true y) sub) ok.0 (fits_push z h1) (under_less c.own (omega arith) u))
+        (λ a w2 G2 x2 k2. operator_runs g n d c ρ p2 L G2 w2 (fits_on h1 x2 (kept_on L k2 k2.layout)) a z q end u op refl at_op))
     exp_runs (Coalesce x y) c ρ p q L G w e has sub ok h u =
         let cx = exp_code c.scope x in let cy = exp_code c.scope y in
         let rest = MoreOp (o.JumpIfStackNotNull (pos (span cy + 1))) (MoreOp o.Pop cy) in
@@ -142,10 +142,10 @@ module _ (g : Given) (n d : ℕ) (again : Effect) (ih : Follows g again n) where
         let end : q ≡ p1 + 2 + (span cy + 1) = omega (arith, e, span-after cx rest) in
         exp_then g n (exp_runs x c ρ p p1 L G w refl (has_front g.code p cx rest has) (sub_left (exp_frees true x) (exp_frees true y) sub) ok.0 h (under_less c.own (omega arith) u))
         (λ a w1 G1 x1 k1.
-            let h1 = fits_on h x1 k1 in
-            let there : p1 + 2 + 1 ≡ p1 + 3 = omega arith in
-            coalesce_runs g n d c ρ p1 L G1 w1 h1 a cy q (value g.fixed again d y ρ w1) has1 end u
-            (exp_runs y c ρ (p1 + 3) q L G1 w1 (omega arith) (subst (λ z. HasAt g.code z cy) there has1.2.2) (sub_right (exp_frees true x) (exp_frees true y) sub) ok.1 h1 u))
+        let h1 = fits_on h x1 k1 in
+        let there : p1 + 2 + 1 ≡ p1 + 3 = omega arith in
+        coalesce_runs g n d c ρ p1 L G1 w1 h1 a cy q (value g.fixed again d y ρ w1) has1 end u
+        (exp_runs y c ρ (p1 + 3) q L G1 w1 (omega arith) (subst (λ z. HasAt g.code z cy) there has1.2.2) (sub_right (exp_frees true x) (exp_frees true y) sub) ok.1 h1 u))
     exp_runs (Prop x t) c ρ p q L G w e has sub ok h u =
         let cx = exp_code c.scope x in
         let rest = MoreOp (o.Str t) (MoreOp o.GetProperty NoOp) in
@@ -154,9 +154,9 @@ module _ (g : Given) (n d : ℕ) (again : Effect) (ih : Follows g again n) where
         let end : p1 + 2 + 1 ≡ q = omega (arith, e, span-after cx rest) in
         exp_then g n (exp_runs x c ρ p p1 L G w refl (has_front g.code p cx rest has) sub ok h (under_less c.own (omega arith) u))
         (λ y w1 G1 x1 k1.
-            let h1 = fits_on h x1 k1 in
-            run_after g n (text_step g n d c ρ p1 (Temp y ∷ L) G1 w1 (fits_push y h1) t q has1.0 (omega arith) u) (extends_same G1)
-            (property_runs g n d c ρ (p1 + 2) L G1 w1 h1 q u y t p1 has1.0 has1.2.0 end))
+        let h1 = fits_on h x1 k1 in
+        run_after g n (text_step g n d c ρ p1 (Temp y ∷ L) G1 w1 (fits_push y h1) t q has1.0 (omega arith) u) (extends_same G1)
+        (property_runs g n d c ρ (p1 + 2) L G1 w1 h1 q u y t p1 has1.0 has1.2.0 end))
     exp_runs (PropNullish x t) c ρ p q L G w e has sub ok h u =
         let cx = exp_code c.scope x in
         let rest = MoreOp (o.Str t) (MoreOp o.GetPropertyNullish NoOp) in
@@ -165,9 +165,9 @@ module _ (g : Given) (n d : ℕ) (again : Effect) (ih : Follows g again n) where
         let end : p1 + 2 + 1 ≡ q = omega (arith, e, span-after cx rest) in
         exp_then g n (exp_runs x c ρ p p1 L G w refl (has_front g.code p cx rest has) sub ok h (under_less c.own (omega arith) u))
         (λ y w1 G1 x1 k1.
-            let h1 = fits_on h x1 k1 in
-            run_after g n (text_step g n d c ρ p1 (Temp y ∷ L) G1 w1 (fits_push y h1) t q has1.0 (omega arith) u) (extends_same G1)
-            (nullish_runs g n d c ρ (p1 + 2) L G1 w1 h1 q u y t p1 has1.0 has1.2.0 end))
+        let h1 = fits_on h x1 k1 in
+        run_after g n (text_step g n d c ρ p1 (Temp y ∷ L) G1 w1 (fits_push y h1) t q has1.0 (omega arith) u) (extends_same G1)
+        (nullish_runs g n d c ρ (p1 + 2) L G1 w1 h1 q u y t p1 has1.0 has1.2.0 end))
     exp_runs (Index x k) c ρ p q L G w e has sub ok h u =
         let cx = exp_code c.scope x in let ck = exp_code c.scope k in
         let p1 = p + span cx in let p2 = p1 + span ck in
@@ -176,9 +176,9 @@ module _ (g : Given) (n d : ℕ) (again : Effect) (ih : Follows g again n) where
         let end : p2 + 1 ≡ q = two_end g p q cx ck o.GetProperty e in
         exp_then g n (exp_runs x c ρ p p1 L G w refl (has_front g.code p cx (ck ⊕ MoreOp o.GetProperty NoOp) has) (sub_left (exp_frees true x) (exp_frees true k) sub) ok.0 h (under_less c.own (omega arith) u))
         (λ a w1 G1 x1 k1.
-            let h1 = fits_on h x1 k1 in
-            exp_then g n (exp_runs k c ρ p1 p2 (Temp a ∷ L) G1 w1 refl (has_front g.code p1 ck (MoreOp o.GetProperty NoOp) has1) (sub_right (exp_frees true x) (exp_frees true k) sub) ok.1 (fits_push a h1) (under_less c.own (omega arith) u))
-            (λ z w2 G2 x2 k2. get_item_runs g n d c ρ p2 L G2 w2 (fits_on h1 x2 (kept_on L k2 k2.layout)) z a q end u at_op))
+        let h1 = fits_on h x1 k1 in
+        exp_then g n (exp_runs k c ρ p1 p2 (Temp a ∷ L) G1 w1 refl (has_front g.code p1 ck (MoreOp o.GetProperty NoOp) has1) (sub_right (exp_frees true x) (exp_frees true k) sub) ok.1 (fits_push a h1) (under_less c.own (omega arith) u))
+        (λ z w2 G2 x2 k2. get_item_runs g n d c ρ p2 L G2 w2 (fits_on h1 x2 (kept_on L k2 k2.layout)) z a q end u at_op))
     exp_runs (Call f xs) c ρ p q L G w e has sub ok h u =
         let cs = exps_code c.scope xs in
         let cc2 = call_code (called_native c.scope f) (count_of xs) (exp_code c.scope f) in
@@ -187,12 +187,12 @@ module _ (g : Given) (n d : ℕ) (again : Effect) (ih : Follows g again n) where
         let end : q ≡ p1 + span cc2 = omega (arith, e, span-after cs cc2) in
         exps_then g n (exps_run xs c ρ p p1 L G w refl (has_front g.code p cs cc2 has) (sub_right (exp_frees true f) (exps_frees true xs) sub) ok.2 h (under_less c.own (omega arith) u))
         (λ vs w1 G1 x1 k1 m.
-            let h1 = fits_on h x1 k1 in
-            callee_runs g n d again ih c ρ p1 q L vs G1 w1 h1 u f (λ x is. sub.all x (subst (λ z. In x (exp_frees true z ++ exps_frees true xs)) (sym is) (inl refl)))
-            (subst (λ j. CalleeOk c.sight f j) (sym m) ok.0)
-            (subst (λ j. HasAt g.code p1 (call_code (called_native c.scope f) j (exp_code c.scope f))) (sym m) has1)
-            (subst (λ j. q ≡ p1 + span (call_code (called_native c.scope f) j (exp_code c.scope f))) (sym m) end)
-            (λ q2 e2 has2 u2. exp_runs f c ρ p1 q2 (temps vs L) G1 w1 e2 has2 (sub_left (exp_frees true f) (exps_frees true xs) sub) ok.1 (fits_temps vs L h1) u2))
+        let h1 = fits_on h x1 k1 in
+        callee_runs g n d again ih c ρ p1 q L vs G1 w1 h1 u f (λ x is. sub.all x (subst (λ z. In x (exp_frees true z ++ exps_frees true xs)) (sym is) (inl refl)))
+        (subst (λ j. CalleeOk c.sight f j) (sym m) ok.0)
+        (subst (λ j. HasAt g.code p1 (call_code (called_native c.scope f) j (exp_code c.scope f))) (sym m) has1)
+        (subst (λ j. q ≡ p1 + span (call_code (called_native c.scope f) j (exp_code c.scope f))) (sym m) end)
+        (λ q2 e2 has2 u2. exp_runs f c ρ p1 q2 (temps vs L) G1 w1 e2 has2 (sub_left (exp_frees true f) (exps_frees true xs) sub) ok.1 (fits_temps vs L h1) u2))
     exp_runs (Lambda ps body) c ρ p q L G w e has sub ok h u =
         lambda_runs g n d c ρ p q L lambda_name ps body G w (has.0, has.1, omega (arith, e), omega (arith, e)) sub ok h u
 
@@ -205,9 +205,9 @@ module _ (g : Given) (n d : ℕ) (again : Effect) (ih : Follows g again n) where
         let end : q ≡ p1 + span cs = omega (arith, e, span-after cx cs) in
         exp_then g n (exp_runs x c ρ p p1 L G w refl (has_front g.code p cx cs has) (sub_left (exp_frees true x) (exps_frees true xs) sub) ok.0 h (under_less c.own (omega arith) u))
         (λ y w1 G1 x1 k1.
-            let h1 = fits_on h x1 k1 in
-            exps_then g n (exps_run xs c ρ p1 q (Temp y ∷ L) G1 w1 end (has_back g.code p cx cs has) (sub_right (exp_frees true x) (exps_frees true xs) sub) ok.1 (fits_push y h1) u)
-            (λ vs w2 G2 x2 k2 m. gives g n (stays g _) (record { many = ap suc m; is = refl; kept = kept_on L k2 k2.layout })))
+        let h1 = fits_on h x1 k1 in
+        exps_then g n (exps_run xs c ρ p1 q (Temp y ∷ L) G1 w1 end (has_back g.code p cx cs has) (sub_right (exp_frees true x) (exps_frees true xs) sub) ok.1 (fits_push y h1) u)
+        (λ vs w2 G2 x2 k2 m. gives g n (stays g _) (record { many = ap suc m; is = refl; kept = kept_on L k2 k2.layout })))
 
     pub parts_run : (ps : Parts) (c : Ctx) (ρ : Env) (p q : ℕ) (L : List Seat) (G : Ghost) (w : World) → q ≡ p + span (parts_code c.scope ps) → HasAt g.code p (parts_code c.scope ps) → Sub (parts_frees true ps) c.words → PartsOk c.sight ps → Fits g n d c ρ L G w → Under q c.own → Run g n (landings c) (at c p L G w) G (ExpsAt g n c q (parts_count ps) L) (parts g.fixed again d ps ρ w)
     parts_run NoPart c ρ p q L G w e has sub ok h u =
@@ -224,9 +224,9 @@ module _ (g : Given) (n d : ℕ) (again : Effect) (ih : Follows g again n) where
         let end : q ≡ p1 + span cs = omega (arith, e, span-after cx cs) in
         exp_then g n (exp_runs x c ρ p p1 L G w refl (has_front g.code p cx cs has) (sub_left (exp_frees true x) (parts_frees true ps) sub) ok.0 h (under_less c.own (omega arith) u))
         (λ y w1 G1 x1 k1.
-            let h1 = fits_on h x1 k1 in
-            exps_then g n (parts_run ps c ρ p1 q (Temp y ∷ L) G1 w1 end (has_back g.code p cx cs has) (sub_right (exp_frees true x) (parts_frees true ps) sub) ok.1 (fits_push y h1) u)
-            (λ vs w2 G2 x2 k2 m. gives g n (stays g _) (record { many = omega (arith, m); is = refl; kept = kept_on L k2 k2.layout })))
+        let h1 = fits_on h x1 k1 in
+        exps_then g n (parts_run ps c ρ p1 q (Temp y ∷ L) G1 w1 end (has_back g.code p cx cs has) (sub_right (exp_frees true x) (parts_frees true ps) sub) ok.1 (fits_push y h1) u)
+        (λ vs w2 G2 x2 k2 m. gives g n (stays g _) (record { many = omega (arith, m); is = refl; kept = kept_on L k2 k2.layout })))
 
     pub pairs_run : (ds : Pairs) (c : Ctx) (ρ : Env) (p q : ℕ) (L : List Seat) (G : Ghost) (w : World) → q ≡ p + span (pairs_code c.scope ds) → HasAt g.code p (pairs_code c.scope ds) → Sub (pairs_frees true ds) c.words → PairsOk c.sight ds → Fits g n d c ρ L G w → Under q c.own → Run g n (landings c) (at c p L G w) G (PairsAt g n c q (pairs_count ds) L) (pairs g.fixed again d ds ρ w)
     pairs_run NoPair c ρ p q L G w e has sub ok h u =
@@ -239,9 +239,9 @@ module _ (g : Given) (n d : ℕ) (again : Effect) (ih : Follows g again n) where
         let end : q ≡ p2 + span cs = omega (arith, e, span-after ck (cx ⊕ cs), span-after cx cs) in
         exp_then g n (exp_runs k c ρ p p1 L G w refl (has_front g.code p ck (cx ⊕ cs) has) (sub_left (exp_frees true k) (exp_frees true x ++ pairs_frees true ds) sub) ok.0 h (under_less c.own (omega arith) u))
         (λ a w1 G1 x1 k1.
-            let h1 = fits_on h x1 k1 in
-            exp_then g n (exp_runs x c ρ p1 p2 (Temp a ∷ L) G1 w1 refl (has_front g.code p1 cx cs has1) (sub_left (exp_frees true x) (pairs_frees true ds) sub1) ok.1 (fits_push a h1) (under_less c.own (omega arith) u))
-            (λ y w2 G2 x2 k2.
-                let h2 = fits_on (fits_push a h1) x2 k2 in
-                pairs_then g n (pairs_run ds c ρ p2 q (Temp y ∷ Temp a ∷ L) G2 w2 end (has_back g.code p1 cx cs has1) (sub_right (exp_frees true x) (pairs_frees true ds) sub1) ok.2 (fits_push y h2) u)
-                (λ kvs w3 G3 x3 k3 m. gives g n (stays g _) (record { many = omega (arith, m); is = refl; kept = kept_on L k3 k3.layout }))))
+        let h1 = fits_on h x1 k1 in
+        exp_then g n (exp_runs x c ρ p1 p2 (Temp a ∷ L) G1 w1 refl (has_front g.code p1 cx cs has1) (sub_left (exp_frees true x) (pairs_frees true ds) sub1) ok.1 (fits_push a h1) (under_less c.own (omega arith) u))
+        (λ y w2 G2 x2 k2.
+        let h2 = fits_on (fits_push a h1) x2 k2 in
+        pairs_then g n (pairs_run ds c ρ p2 q (Temp y ∷ Temp a ∷ L) G2 w2 end (has_back g.code p1 cx cs has1) (sub_right (exp_frees true x) (pairs_frees true ds) sub1) ok.2 (fits_push y h2) u)
+        (λ kvs w3 G3 x3 k3 m. gives g n (stays g _) (record { many = omega (arith, m); is = refl; kept = kept_on L k3 k3.layout }))))

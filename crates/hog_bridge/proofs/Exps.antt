@@ -71,9 +71,11 @@ captured_on (Some n) captured h h1 k e = (e.0, k.funs n e.0 e.1, e.2)
 
 pub fits_on : {g : Given} {n d : ℕ} {c : Ctx} {ρ : Env} {L : List Seat} {G G1 : Ghost} {w w1 : World} → Fits g n d c ρ L G w → Extends G G1 → Kept g n L G1 w1 → Fits g n d c ρ L G1 w1
 fits_on {c = c} {ρ = ρ} {L = L} {G = G} {G1 = G1} h x k = record {
-  kept = k; framed = h.framed;
+  kept = k;
+  framed = h.framed;
   sees = subst (Sees c.words c.scope ρ c.base c.captured L) (sym x.owners.1) (sees_on c.words c.scope ρ c.base c.captured L G.owners x.owners.0 h.sees);
-  captured = captured_on c.function c.captured G.heap G1.heap x.heap h.captured; sight = h.sight;
+  captured = captured_on c.function c.captured G.heap G1.heap x.heap h.captured;
+  sight = h.sight;
 }
 
 pub kept_temps : {g : Given} {n : ℕ} (vs : List Val) (L : List Seat) {G : Ghost} {w : World} → Kept g n (temps vs L) G w → Kept g n L G w
@@ -127,16 +129,17 @@ module _ (g : Given) (n d : ℕ) (c : Ctx) (place : ℕ) (M L : List Seat) (G : 
   pub value_result : (o : Result Val Kind) → step g.fixed g.code S ≡ on_result o (on_and_push here rest) S → Run g n (landings c) S G (ExpAt g n c behind L) (m.of_result o w)
   value_result o is = result_runs g n d c place (M ++ L) G w r o (on_and_push here rest) is
       (λ v. let q = ap (push v) (on_pic c place behind M L G w r.kept.layout) in
-            (subst (λ z. suc (psi g z) ≤ psi g S) (sym q) (passes g c place behind (M ++ L) (Temp v ∷ L) G G w w r.at_op after (omega arith)), record { is = q; kept = kept_rest }))
+      (subst (λ z. suc (psi g z) ≤ psi g S) (sym q) (passes g c place behind (M ++ L) (Temp v ∷ L) G G w w r.at_op after (omega arith)), record { is = q; kept = kept_rest }))
 
   pub value_outcome : (o : Outcome Twin Val) → Fair (FunOk g.code G.owners) G.heap o → step g.fixed g.code S ≡ on_outcome (outcome_map built o) (on_and_push here rest) S → Run g n (landings c) S G (ExpAt g n c behind L) (m.of_outcome (outcome_map meant o) w)
   value_outcome o f is = outcome_runs g n d c place (M ++ L) G w r o (on_and_push here rest) f is
       (λ v h units k.
-          let G1 : Ghost = record G { heap = h } in
-          let w1 : World = m.with_heap w (heap_map meant h) units in
-          let q = ap (push v) (on_pic c place behind M L G1 w1 k.layout) in
-          (subst (λ z. suc (psi g z) ≤ psi g S) (sym q) (passes g c place behind (M ++ L) (Temp v ∷ L) G G1 w w1 r.at_op after (omega arith)),
-           record { is = q; kept = kept_on L k (lower (length w.store) M L k.layout) }))
+      let G1 : Ghost = record G { heap = h } in
+      let w1 : World = m.with_heap w (heap_map meant h) units in
+      let q = ap (push v) (on_pic c place behind M L G1 w1 k.layout) in (
+        subst (λ z. suc (psi g z) ≤ psi g S) (sym q) (passes g c place behind (M ++ L) (Temp v ∷ L) G G1 w w1 r.at_op after (omega arith)),
+        record { is = q; kept = kept_on L k (lower (length w.store) M L k.layout) },
+      ))
 
 -- a value is pushed
 module _ (g : Given) (n d : ℕ) (c : Ctx) (place : ℕ) (L : List Seat) (G : Ghost) (w : World) where

@@ -80,6 +80,7 @@ first_texts F ts globals = made_first (texts_made ts [] 0) (texts_are ts [] 0)
         subst (λ z. text_at z (place_in ts t) ≡ Some t) (sym (g.1 ∙ ap (λ z. z ++ g.0) e)) (text_in_place ts g.0 t i)
     placed h e (Throws kind) grows = tt
     placed h e Spends grows = tt
+
     made_first : (o : Outcome F (List Val)) → TextsMade ts [] o → TextsPlaced ts (outcome_and_then o (λ vs. read_cells (kept_value globals)))
     made_first (Gives vs h units) e = placed h e (read_cells (kept_value globals) h units) (λ v h1 u1 gave. read_cells-grows (kept_value globals) h units v h1 u1 gave)
     made_first (Throws kind) e = tt

@@ -115,13 +115,20 @@ module _ (g : Given) (i n : ℕ) (le : i ≤ n) where
   throws_more : (ls : List Landing) (s : State) (G : Ghost) (v : Val) (w : World) → ThrowEnds g i ls s G v w → ThrowEnds g n ls s G v w
   throws_more [] s G v w r = r
   throws_more (l ∷ ls) s G v w r = record {
-    last = r.last; ghost' = r.ghost'; comes = r.comes; extends = r.extends;
+    last = r.last;
+    ghost' = r.ghost';
+    comes = r.comes;
+    extends = r.extends;
     holds = record { is = r.holds.is; kept = kept_more r.holds.kept };
   }
 
   ends_more : {A : Type 0} (ls : List Landing) (s : State) (G : Ghost) (P P2 : A → World → Ghost → State → Type 0) (o : Got A) → ((a : A) (w : World) (G : Ghost) (s : State) → P a w G s → P2 a w G s) → Ends g i ls s G P o → Ends g n ls s G P2 o
   ends_more ls s G P P2 (Gives a w) f r = record {
-    last = r.last; ghost' = r.ghost'; comes = r.comes; extends = r.extends; holds = f a w r.ghost' r.last r.holds;
+    last = r.last;
+    ghost' = r.ghost';
+    comes = r.comes;
+    extends = r.extends;
+    holds = f a w r.ghost' r.last r.holds;
   }
   ends_more ls s G P P2 (Throws v w) f r = throws_more ls s G v w r
   ends_more ls s G P P2 (Waits w) f r = r

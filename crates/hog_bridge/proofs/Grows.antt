@@ -95,9 +95,11 @@ function_grows here n cell f params rest s = counted (nat_lt params n)
     deep : (b : Bool) → Grows s (cond b (ends end.TooDeep s) (ends end.TurnsSpent s))
     deep true = same refl
     deep false = same refl
+
     entered : (b : Bool) → Grows s (cond b (with_turn (enter here n cell f params rest) s) (cond (nat_lt s.turns max_turns) (ends end.TooDeep s) (ends end.TurnsSpent s)))
     entered true = turn_grows (enter here n cell f params rest) s (λ s1 e. e)
     entered false = deep (nat_lt s.turns max_turns)
+
     counted : (b : Bool) → Grows s (cond b (throw_kind ArgumentError s) (cond (nat_lt (length here.around) max_depth) (with_turn (enter here n cell f params rest) s) (cond (nat_lt s.turns max_turns) (ends end.TooDeep s) (ends end.TurnsSpent s))))
     counted true = kind_grows ArgumentError s
     counted false = entered (nat_lt (length here.around) max_depth)

@@ -42,7 +42,6 @@ use Rattle.hog_bridge.proofs.Steps.{floor_in, spot, top_pic, taken_pic, framed_p
 use Rattle.hog_bridge.proofs.Parts.{Ready, ExpAt, spends, native_runs}
 use Rattle.hog_bridge.proofs.Exps.{value_step, value_runs, value_result, value_outcome, ready, ending}
 
-
 module _ {g : Given} {n : ℕ} {L : List Seat} {G : Ghost} {w : World} (k : Kept g n L G w) where
   pub key_same : (cell : ℕ) (t : List ℕ) → key_of (heap_map built G.heap) cell t ≡ key_of w.heap cell t
   key_same cell t = key_of-heap_map built G.heap cell t ∙ sym (ap (λ h. key_of h cell t) k.heap ∙ key_of-heap_map meant G.heap cell t)
@@ -110,6 +109,7 @@ module _ (g : Given) (n d : ℕ) (c : Ctx) (place : ℕ) (L : List Seat) (G : Gh
       there (Some (Array vs)) t e = absurd (cc)
       there (Some (Dict ps)) t e = absurd (cc)
       there (Some (Fun x)) t e = let same : x ≡ t = cc in ap (λ (z : Twin). Some z.1) same
+
       function_built : (k : ℕ) (t : Twin) → fun_at G.heap k ≡ Some t → function_at (heap_map built G.heap) k ≡ Some t.1
       function_built k t e = ap (option_and_then function_in) (slice_get-map (cell_map built) G.heap k) ∙ there (slice_get G.heap k) t e
 
@@ -121,5 +121,5 @@ module _ (g : Given) (n d : ℕ) (c : Ctx) (place : ℕ) (L : List Seat) (G : Gh
       let found : upvalue_of (at c place L G w) (frame place c.base c.function) j ≡ Some (up_of L w.store x) = ap (option_and_then (slice_get (ups_of L w.store G.owners))) number ∙ there in
       ending g n e (value_runs g n d c place [] L G w r (place + 2) (omega arith) (read w.store x)
       (op_is g (o.GetUpvalue j) c place L G w is
-       ∙ ap (λ z. on_and_push (spot c place (place + 2)) (stack_of w.store L) (upvalue_value (stack_of w.store L) z) (at c place L G w)) found
-       ∙ ap (λ v. on_and_push (spot c place (place + 2)) (stack_of w.store L) v (at c place L G w)) (up_reads x)))
+      ∙ ap (λ z. on_and_push (spot c place (place + 2)) (stack_of w.store L) (upvalue_value (stack_of w.store L) z) (at c place L G w)) found
+      ∙ ap (λ v. on_and_push (spot c place (place + 2)) (stack_of w.store L) v (at c place L G w)) (up_reads x)))

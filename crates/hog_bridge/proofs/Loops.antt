@@ -49,16 +49,23 @@ module _ (g : Given) (n d : ℕ) where
   pub plain_then : {c : Ctx} {p1 p2 k2 : ℕ} {fr2 : names.Frame} {ws2 V2 : List Word} {L L2 : List Seat} {ls : List Landing} {s : State} {G : Ghost} {o : Got Flow} {go : Env → World → Got Flow} → Run g n ls s G (PlainEnd g n d c p1 L) o → ((ρ1 : Env) (w : World) (G1 : Ghost) → Extends G G1 → Fits g n d c ρ1 L G1 w → Run g n ls (at c p1 L G1 w) G1 (StmAt g n d c p2 fr2 ws2 V2 k2 L2) (go ρ1 w)) → Run g n ls s G (StmAt g n d c p2 fr2 ws2 V2 k2 L2) (and_then o (λ f w. on_flow f w go))
   plain_then {c} {p1} {p2} {k2} {fr2} {ws2} {V2} {L} {L2} {ls} {s} {G} {o} {go} r k =
       stm_then g n d r (λ ρ1 w G1 s1 x p.
-          let e = empty p.new p.many in
-          subst (λ N. Run g n ls (at c p1 (N ++ L) G1 w) G1 (StmAt g n d c p2 fr2 ws2 V2 k2 L2) (go ρ1 w)) (sym e)
-          (k ρ1 w G1 x (subst (λ N. Fits g n d c ρ1 (N ++ L) G1 w) e p.fits)))
+      let e = empty p.new p.many in
+      subst (λ N. Run g n ls (at c p1 (N ++ L) G1 w) G1 (StmAt g n d c p2 fr2 ws2 V2 k2 L2) (go ρ1 w)) (sym e)
+      (k ρ1 w G1 x (subst (λ N. Fits g n d c ρ1 (N ++ L) G1 w) e p.fits)))
 
   pub fits_guarded : (c : Ctx) (ρ : Env) (target : ℕ) (L : List Seat) (G : Ghost) (w : World) → Fits g n d c ρ L G w → Fits g n d (guarded c (landing_of c target L)) ρ L G w
   fits_guarded c ρ target L G w h = record {
-    kept = h.kept; sees = h.sees; captured = h.captured; sight = h.sight;
+    kept = h.kept;
+    sees = h.sees;
+    captured = h.captured;
+    sight = h.sight;
     framed = record {
       lands = (inl (refl, refl, refl), ([], refl), h.framed.lands);
-      floor = h.framed.floor; base = h.framed.base; own = (refl, h.framed.own); outer = h.framed.outer; depth = h.framed.depth;
+      floor = h.framed.floor;
+      base = h.framed.base;
+      own = (refl, h.framed.own);
+      outer = h.framed.outer;
+      depth = h.framed.depth;
     };
   }
 
@@ -70,8 +77,8 @@ module _ (g : Given) (n d : ℕ) where
       let t : ℕ → ThrowFrame = λ j. record { frames = suc (length c.frames); height = j; catch = p + 2 + k } in
       one_step g S (at (guarded c (landing_of c (p + 2 + k) L)) (p + 2) L G w)
       (op_is g (o.Try (pos k)) c p L G w is
-       ∙ ap (λ (z : State). record z { throws = t (length (stack_of w.store L)) ∷ throws_of (landings c) }) (on_pic c p (p + 2) [] L G w h.kept.layout)
-       ∙ ap (λ j. record (at c (p + 2) L G w) { throws = t j ∷ throws_of (landings c) }) (length-stack w.store L))
+      ∙ ap (λ (z : State). record z { throws = t (length (stack_of w.store L)) ∷ throws_of (landings c) }) (on_pic c p (p + 2) [] L G w h.kept.layout)
+      ∙ ap (λ j. record (at c (p + 2) L G w) { throws = t j ∷ throws_of (landings c) }) (length-stack w.store L))
       (passes g c p (p + 2) L L G G w w is (omega arith) (omega arith))
 
   -- what a guarded block comes to, with its throw caught
@@ -91,8 +98,8 @@ module _ (g : Given) (n d : ℕ) where
       let t : ThrowFrame = record { frames = suc (length c.frames); height = length L; catch = target } in
       one_step g S (at c (p + 1) L G w)
       (op_is g o.PopTry c2 p L G w is
-       ∙ ap (λ (z : State). record z { throws = without_try (suc (length c.frames)) (throws_of (landings c2)) }) (on_pic c2 p (p + 1) [] L G w k.layout)
-       ∙ ap (λ b. record (at c (p + 1) L G w) { throws = cond b (throws_of (landings c)) (t ∷ throws_of (landings c)) }) (same_number (suc (length c.frames))))
+      ∙ ap (λ (z : State). record z { throws = without_try (suc (length c.frames)) (throws_of (landings c2)) }) (on_pic c2 p (p + 1) [] L G w k.layout)
+      ∙ ap (λ b. record (at c (p + 1) L G w) { throws = cond b (throws_of (landings c)) (t ∷ throws_of (landings c)) }) (same_number (suc (length c.frames))))
       (passes g c2 p (p + 1) L L G G w w is (omega arith) (omega arith))
     where
       same_number : (j : ℕ) → (j == j) ≡ true
@@ -106,10 +113,15 @@ module _ (g : Given) (n d : ℕ) where
       let f2 = subst (λ N. Fits g n d c2 ρ1 (N ++ L) G1 w) en q.fits in
       let is = q.is ∙ ap (λ N. at c2 p (N ++ L) G1 w) en in
       record {
-        last = at c p2 L G1 w; ghost' = G1; extends = extends_same G1;
+        last = at c p2 L G1 w;
+        ghost' = G1;
+        extends = extends_same G1;
         comes = comes_then g (comes_to g (at_once g is) refl) (comes_then g (untry_step c target p L G1 w at1 f2.kept) (comes_to g (goto_step g n d c (p + 1) k L G1 w at2) (ap (λ z. at c z L G1 w) (omega (arith, e)))));
         holds = record {
-          new = []; many = refl; is = refl; full = full;
+          new = [];
+          many = refl;
+          is = refl;
+          full = full;
           fits = record { kept = f2.kept; sees = f2.sees; framed = h.framed; captured = f2.captured; sight = f2.sight };
         };
       }
@@ -120,7 +132,10 @@ module _ (g : Given) (n d : ℕ) where
   pub fits_turn : {c : Ctx} {ρ : Env} {L : List Seat} {G : Ghost} {w : World} → w.turns < max_turns → Fits g n d c ρ L G w → Fits g (n - 1) d c ρ L G (record w { turns = w.turns + 1 })
   fits_turn lt h = record {
     kept = record { layout = h.kept.layout; owners = h.kept.owners; heap = h.kept.heap; funs = h.kept.funs; texts = h.kept.texts; turns = omega (arith, h.kept.turns, lt) };
-    framed = h.framed; sees = h.sees; captured = h.captured; sight = h.sight;
+    framed = h.framed;
+    sees = h.sees;
+    captured = h.captured;
+    sight = h.sight;
   }
 
 back_is : (k : ℕ) → neg_ℤ (pos (k + 4)) ≡ negsuc (k + 3)
@@ -181,8 +196,8 @@ module _ (g : Given) (n d : ℕ) (c : Ctx) (ρ : Env) (p q : ℕ) (C X : Ops) (M
   pub tested_runs : {P : Flow → World → Ghost → State → Type 0} (o1 : Got Val) (go : World → Got Flow) (gone : World → Got Flow) → Fits g n d c ρ M G w → Run g n (landings c) (at c p M G w) G (ExpAt g n c (p + span C) M) o1 → ((w1 : World) (G1 : Ghost) → Extends G G1 → Fits g n d c ρ M G1 w1 → Run g n (landings c) (at c (p + span C + 2) M G1 w1) G1 P (go w1)) → ((w1 : World) (G1 : Ghost) → Extends G G1 → Fits g n d c ρ M G1 w1 → Run g n (landings c) (at c q M G1 w1) G1 P (gone w1)) → Run g n (landings c) (at c p M G w) G P (and_then o1 (λ v w1. cond (truth_of w1.heap v) (go w1) (gone w1)))
   tested_runs {P} o1 go gone h r turn stop =
       exp_then g n r (λ v w1 G1 x1 k1.
-          let h1 = fits_on h x1 k1 in
-          run_after g n (test_step g n d c ρ (p + span C) (span X + 2) M v G1 w1 (loop_jump g p C X has) h1) (extends_same G1) (either G1 w1 x1 h1 (truth_of w1.heap v)))
+      let h1 = fits_on h x1 k1 in
+      run_after g n (test_step g n d c ρ (p + span C) (span X + 2) M v G1 w1 (loop_jump g p C X has) h1) (extends_same G1) (either G1 w1 x1 h1 (truth_of w1.heap v)))
     where
       either : (G1 : Ghost) (w1 : World) → Extends G G1 → Fits g n d c ρ M G1 w1 → (b : Bool) → Run g n (landings c) (at c (cond b (p + span C + 2) (p + span C + 2 + (span X + 2))) M G1 w1) G1 P (cond b (go w1) (gone w1))
       either G1 w1 x1 h1 true = turn w1 G1 x1 h1
@@ -194,10 +209,10 @@ module _ (g : Given) (n d : ℕ) (again : Effect) (ih : Follows g again n) (c : 
   while_again a b p1 k is back le e has sub ok =
       back_runs g n d c p1 p k L G w (PlainEnd g n d c q L) (again d (Loop a b) ρ) is back q le u h.framed h.kept
       (λ lt. run_more g (n - 1) n (omega arith) (PlainEnd g n d c q L) (stm_more g (n - 1) n (omega arith) d c q c.scope c.words c.sight 0 L)
-             (ih.loop (n - 1) (omega (arith, h.kept.turns, lt)) d a b c ρ p q L G (record w { turns = w.turns + 1 }) e has sub ok (fits_turn g n d lt h) full u))
+      (ih.loop (n - 1) (omega (arith, h.kept.turns, lt)) d a b c ρ p q L G (record w { turns = w.turns + 1 }) e has sub ok (fits_turn g n d lt h) full u))
 
   pub for_again : (a : OptionExp) (s : OptionStm) (b : Stms) (p1 k : ℕ) → slice_get g.code p1 ≡ Some (Begins (o.Jump (neg_ℤ (pos (k + 4))))) → (p1 + 2) - (k + 4) ≡ p → suc p1 ≤ q → q ≡ p + span (for_loop c.scope a s b) → HasAt g.code p (for_loop c.scope a s b) → Sub (for_words a s b) c.words → OptionExpOk c.sight a × OptionStmOk c.sight s × StmsOk c.sight b → Run g n (landings c) (at c p1 L G w) G (PlainEnd g n d c q L) (m.with_turn w (again d (LoopWithStep a s b) ρ))
   for_again a s b p1 k is back le e has sub ok =
       back_runs g n d c p1 p k L G w (PlainEnd g n d c q L) (again d (LoopWithStep a s b) ρ) is back q le u h.framed h.kept
       (λ lt. run_more g (n - 1) n (omega arith) (PlainEnd g n d c q L) (stm_more g (n - 1) n (omega arith) d c q c.scope c.words c.sight 0 L)
-             (ih.stepped (n - 1) (omega (arith, h.kept.turns, lt)) d a s b c ρ p q L G (record w { turns = w.turns + 1 }) e has sub ok (fits_turn g n d lt h) full u))
+      (ih.stepped (n - 1) (omega (arith, h.kept.turns, lt)) d a s b c ρ p q L G (record w { turns = w.turns + 1 }) e has sub ok (fits_turn g n d lt h) full u))

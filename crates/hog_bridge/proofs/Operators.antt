@@ -103,9 +103,9 @@ module _ (g : Given) (n d : ℕ) (c : Ctx) (ρ : Env) (place : ℕ) (L : List Se
       let rest = stack_of w.store L in
       ending g n e (value_result g n d c place (Temp v ∷ []) L G w (ready_with at_op (omega arith) u (framed1 v) (kept1 v)) (place + 2) (omega arith) (key_of w.heap g.fixed.globals t)
       (op_is g (o.GetGlobal 1) c place (Temp v ∷ L) G w at_op
-       ∙ ap (λ x. get_global g.fixed here x.0 x.1 S2) (taken_pic c (v ∷ []) L w h.framed)
-       ∙ ap (λ x. on_result (property_path (global_of g.fixed S2 x) [] S2) (on_and_push here rest) S2) (text_there h.kept p0 t at_text)
-       ∙ ap (λ x. on_result x (on_and_push here rest) S2) (path_done (key_of (heap_map built G.heap) g.fixed.globals t) S2 ∙ key_same h.kept g.fixed.globals t)))
+      ∙ ap (λ x. get_global g.fixed here x.0 x.1 S2) (taken_pic c (v ∷ []) L w h.framed)
+      ∙ ap (λ x. on_result (property_path (global_of g.fixed S2 x) [] S2) (on_and_push here rest) S2) (text_there h.kept p0 t at_text)
+      ∙ ap (λ x. on_result x (on_and_push here rest) S2) (path_done (key_of (heap_map built G.heap) g.fixed.globals t) S2 ∙ key_same h.kept g.fixed.globals t)))
 
 module _ (g : Given) (n d : ℕ) (c : Ctx) (ρ : Env) (place : ℕ) (L : List Seat) (G : Ghost) (w : World) (h : Fits g n d c ρ L G w) where
   -- a text is pushed
@@ -163,14 +163,14 @@ module _ (g : Given) (n d : ℕ) (c : Ctx) (ρ : Env) (place : ℕ) (L : List Se
   binary_runs op code is acts =
       ending g n e (value_result g n d c place (Temp x ∷ Temp y ∷ []) L G w (ready_with is (omega arith) u framed_two kept_two) (place + 1) (omega arith) (operated op w.heap x y)
       (acts ∙ two_top (λ a b r. on_result (operated op (heap_map built G.heap) a b) (on_and_push here r) S)
-       ∙ ap (λ z. on_result z (on_and_push here rest) S) (operated_same h.kept op x y)))
+      ∙ ap (λ z. on_result z (on_and_push here rest) S) (operated_same h.kept op x y)))
 
   -- where its result is known
   binary_step : (op : BinaryOp) (code : Op) (v : Val) → slice_get g.code place ≡ Some (Begins code) → step g.fixed g.code S ≡ binary op here S → operated op w.heap x y ≡ Ok v → Comes g S (at c (place + 1) (Temp v ∷ L) G w)
   binary_step op code v is acts gave =
       value_step g n d c place (Temp x ∷ Temp y ∷ []) L G w (ready_with is (omega arith) u framed_two kept_two) (place + 1) (omega arith) v
       (acts ∙ two_top (λ a b r. on_result (operated op (heap_map built G.heap) a b) (on_and_push here r) S)
-       ∙ ap (λ z. on_result z (on_and_push here rest) S) (operated_same h.kept op x y ∙ gave))
+      ∙ ap (λ z. on_result z (on_and_push here rest) S) (operated_same h.kept op x y ∙ gave))
 
   pub plus_step : (v : Val) → slice_get g.code place ≡ Some (Begins o.Plus) → operated b.Plus w.heap x y ≡ Ok v → Comes g S (at c (place + 1) (Temp v ∷ L) G w)
   unfolding act
@@ -203,8 +203,8 @@ module _ (g : Given) (n d : ℕ) (c : Ctx) (ρ : Env) (place : ℕ) (L : List Se
   get_item_runs is =
       ending g n e (value_result g n d c place (Temp x ∷ Temp y ∷ []) L G w (ready_with is (omega arith) u framed_two kept_two) (place + 1) (omega arith) (accessed w.heap y x)
       (op_is g o.GetProperty c place (Temp x ∷ Temp y ∷ L) G w is
-       ∙ two_top (λ a b r. on_result (accessed (heap_map built G.heap) b a) (on_and_push here r) S)
-       ∙ ap (λ z. on_result z (on_and_push here rest) S) (accessed_same h.kept y x)))
+      ∙ two_top (λ a b r. on_result (accessed (heap_map built G.heap) b a) (on_and_push here r) S)
+      ∙ ap (λ z. on_result z (on_and_push here rest) S) (accessed_same h.kept y x)))
 
 module _ (g : Given) (n d : ℕ) (c : Ctx) (ρ : Env) (place : ℕ) (L : List Seat) (G : Ghost) (w : World) (h : Fits g n d c ρ L G w) (q : ℕ) (u : Under q c.own) where
   framed_one : (v : Val) → Framed d c (Temp v ∷ L)
@@ -225,9 +225,9 @@ module _ (g : Given) (n d : ℕ) (c : Ctx) (ρ : Env) (place : ℕ) (L : List Se
       let rest = stack_of w.store L in
       ending g n e (value_result g n d c place (Temp x ∷ Temp base ∷ []) L G w (ready_with is (omega arith) u (framed_push c (Temp x) (Temp base ∷ L) (framed_one base)) (kept_push x (kept_push base h.kept))) (place + 1) (omega arith) (nullish_property_of w.heap base t)
       (op_is g o.GetPropertyNullish c place (Temp x ∷ Temp base ∷ L) G w is
-       ∙ two_top g n d c ρ place L G w h x base q e u (λ a b r. cond (is_null b) (on_and_push here r Null S) (on_result (accessed (heap_map built G.heap) b a) (on_and_push here r) S))
-       ∙ ap (λ z. cond (is_null base) (on_and_push here rest Null S) (on_result z (on_and_push here rest) S)) (accessed_same h.kept base x ∙ property_is w.heap base (place_in g.fixed.literals t) t (text_meant h.kept p0 t at_text))
-       ∙ by_base base S))
+      ∙ two_top g n d c ρ place L G w h x base q e u (λ a b r. cond (is_null b) (on_and_push here r Null S) (on_result (accessed (heap_map built G.heap) b a) (on_and_push here r) S))
+      ∙ ap (λ z. cond (is_null base) (on_and_push here rest Null S) (on_result z (on_and_push here rest) S)) (accessed_same h.kept base x ∙ property_is w.heap base (place_in g.fixed.literals t) t (text_meant h.kept p0 t at_text))
+      ∙ by_base base S))
     where
       by_base : (base : Val) (S : State) → cond (is_null base) (on_and_push (spot c place (place + 1)) (stack_of w.store L) Null S) (on_result (property_of w.heap base t) (on_and_push (spot c place (place + 1)) (stack_of w.store L)) S) ≡ on_result (nullish_property_of w.heap base t) (on_and_push (spot c place (place + 1)) (stack_of w.store L)) S
       by_base Null S = refl
@@ -242,8 +242,8 @@ module _ (g : Given) (n d : ℕ) (c : Ctx) (ρ : Env) (place : ℕ) (L : List Se
       let here = spot c place (place + 1) in
       ending g n e (value_runs g n d c place (Temp v ∷ []) L G w (ready_with is (omega arith) u (framed_one v) (kept_push v h.kept)) (place + 1) (omega arith) (Truth (not (truth_of w.heap v)))
       (op_is g o.Not c place (Temp v ∷ L) G w is
-       ∙ ap (λ t. on_and_push here t.1 (Truth (not (truth_of (heap_map built G.heap) t.0))) S) (top_pic c (Temp v) L w h.framed)
-       ∙ ap (λ t. on_and_push here (stack_of w.store L) (Truth (not t)) S) (truth_same h.kept v)))
+      ∙ ap (λ t. on_and_push here t.1 (Truth (not (truth_of (heap_map built G.heap) t.0))) S) (top_pic c (Temp v) L w h.framed)
+      ∙ ap (λ t. on_and_push here (stack_of w.store L) (Truth (not t)) S) (truth_same h.kept v)))
 
   -- 0 less the value
   pub minus_runs : (v : Val) → slice_get g.code place ≡ Some (Begins o.Minus) → place + 1 ≡ q → Run g n (landings c) (at c place (Temp (Int (pos 0)) ∷ Temp v ∷ L) G w) G (ExpAt g n c q L) (m.of_result (negated v) w)
@@ -270,9 +270,9 @@ module _ (g : Given) (n d : ℕ) (c : Ctx) (ρ : Env) (place : ℕ) (L : List Se
       let v = Truth (truth_of w.heap x && truth_of w.heap y) in
       ending g n e (value_runs g n d c place (Temp y ∷ Temp x ∷ []) L G w (ready_with is (omega arith) u (framed_push c (Temp y) (Temp x ∷ L) (framed_one x)) (kept_push y (kept_push x h.kept))) (place + 2) (omega arith) v
       (op_is g (o.And 2) c place (Temp y ∷ Temp x ∷ L) G w is
-       ∙ ap (λ t. on_and_push here t.1 (Truth (all_true S t.0)) S) (taken_pic c (x ∷ y ∷ []) L w h.framed)
-       ∙ ap (λ t. on_and_push here (stack_of w.store L) (Truth t) S)
-         (both_true (truth_of (heap_map built G.heap) x) (truth_of (heap_map built G.heap) y) ∙ ap (λ t. t && truth_of (heap_map built G.heap) y) (truth_same h.kept x) ∙ ap (λ t. truth_of w.heap x && t) (truth_same h.kept y))))
+      ∙ ap (λ t. on_and_push here t.1 (Truth (all_true S t.0)) S) (taken_pic c (x ∷ y ∷ []) L w h.framed)
+      ∙ ap (λ t. on_and_push here (stack_of w.store L) (Truth t) S)
+      (both_true (truth_of (heap_map built G.heap) x) (truth_of (heap_map built G.heap) y) ∙ ap (λ t. t && truth_of (heap_map built G.heap) y) (truth_same h.kept x) ∙ ap (λ t. truth_of w.heap x && t) (truth_same h.kept y))))
 
   pub or_runs : (x y : Val) → slice_get g.code place ≡ Some (Begins (o.Or 2)) → place + 2 ≡ q → Run g n (landings c) (at c place (Temp y ∷ Temp x ∷ L) G w) G (ExpAt g n c q L) (m.of_result (operated b.Or w.heap x y) w)
   unfolding act operated
@@ -282,9 +282,9 @@ module _ (g : Given) (n d : ℕ) (c : Ctx) (ρ : Env) (place : ℕ) (L : List Se
       let v = Truth (truth_of w.heap x || truth_of w.heap y) in
       ending g n e (value_runs g n d c place (Temp y ∷ Temp x ∷ []) L G w (ready_with is (omega arith) u (framed_push c (Temp y) (Temp x ∷ L) (framed_one x)) (kept_push y (kept_push x h.kept))) (place + 2) (omega arith) v
       (op_is g (o.Or 2) c place (Temp y ∷ Temp x ∷ L) G w is
-       ∙ ap (λ t. on_and_push here t.1 (Truth (any_true S t.0)) S) (taken_pic c (x ∷ y ∷ []) L w h.framed)
-       ∙ ap (λ t. on_and_push here (stack_of w.store L) (Truth t) S)
-         (one_true (truth_of (heap_map built G.heap) x) (truth_of (heap_map built G.heap) y) ∙ ap (λ t. t || truth_of (heap_map built G.heap) y) (truth_same h.kept x) ∙ ap (λ t. truth_of w.heap x || t) (truth_same h.kept y))))
+      ∙ ap (λ t. on_and_push here t.1 (Truth (any_true S t.0)) S) (taken_pic c (x ∷ y ∷ []) L w h.framed)
+      ∙ ap (λ t. on_and_push here (stack_of w.store L) (Truth t) S)
+      (one_true (truth_of (heap_map built G.heap) x) (truth_of (heap_map built G.heap) y) ∙ ap (λ t. t || truth_of (heap_map built G.heap) y) (truth_same h.kept x) ∙ ap (λ t. truth_of w.heap x || t) (truth_same h.kept y))))
 
   -- arrays and dictionaries that are written out
   pub array_runs : (vs : List Val) → slice_get g.code place ≡ Some (Begins (o.Array (length vs))) → place + 2 ≡ q → Run g n (landings c) (at c place (temps vs L) G w) G (ExpAt g n c q L) (m.of_outcome (made (Array vs) w.heap w.units) w)
@@ -299,9 +299,9 @@ module _ (g : Given) (n d : ℕ) (c : Ctx) (ρ : Env) (place : ℕ) (L : List Se
       (made_fair (FunOk g.code G.owners) (Array vs) G.heap w.units tt h.kept.funs)
       (subst (λ M. step g.fixed g.code (at c place M G w) ≡ on_outcome (outcome_map built (made (Array vs) G.heap w.units)) (on_and_push here (stack_of w.store L)) (at c place M G w)) (sym (temps_over vs L))
       (op_is g (o.Array (length vs)) c place (temps vs L) G w is
-       ∙ ap (λ t. on_outcome (made (Array (reverse t.0)) (heap_map built G.heap) w.units) (on_and_push here t.1) S) (taken_pic c vs L w h.framed)
-       ∙ ap (λ xs. on_outcome (made (Array xs) (heap_map built G.heap) w.units) (on_and_push here (stack_of w.store L)) S) (reverse-reverse vs)
-       ∙ ap (λ z. on_outcome z (on_and_push here (stack_of w.store L)) S) (made-heap_map built (Array vs) G.heap w.units))))))
+      ∙ ap (λ t. on_outcome (made (Array (reverse t.0)) (heap_map built G.heap) w.units) (on_and_push here t.1) S) (taken_pic c vs L w h.framed)
+      ∙ ap (λ xs. on_outcome (made (Array xs) (heap_map built G.heap) w.units) (on_and_push here (stack_of w.store L)) S) (reverse-reverse vs)
+      ∙ ap (λ z. on_outcome z (on_and_push here (stack_of w.store L)) S) (made-heap_map built (Array vs) G.heap w.units))))))
 
   pub dict_runs : (kvs : List (Val × Val)) (k : ℕ) → length (in_row kvs) ≡ k + k → slice_get g.code place ≡ Some (Begins (o.Dict k)) → place + 2 ≡ q → Run g n (landings c) (at c place (temps (in_row kvs) L) G w) G (ExpAt g n c q L) (m.of_outcome (dictionary_made kvs w.heap w.units) w)
   unfolding act
@@ -316,11 +316,11 @@ module _ (g : Given) (n d : ℕ) (c : Ctx) (ρ : Env) (place : ℕ) (L : List Se
       (dictionary_fair (FunOk g.code G.owners) G.heap h.kept.funs kvs w.units)
       (subst (λ M. step g.fixed g.code (at c place M G w) ≡ on_outcome (outcome_map built (dictionary_made kvs G.heap w.units)) (on_and_push here (stack_of w.store L)) (at c place M G w)) (sym (temps_over vs L))
       (op_is g (o.Dict k) c place (temps vs L) G w is
-       ∙ ap (λ j. let t = taken (floor_in c) j S.stack in on_outcome (dictionary_made (in_pairs (reverse t.0)) (heap_map built G.heap) w.units) (on_and_push here t.1) S) (sym many)
-       ∙ ap (λ t. on_outcome (dictionary_made (in_pairs (reverse t.0)) (heap_map built G.heap) w.units) (on_and_push here t.1) S) (taken_pic c vs L w h.framed)
-       ∙ ap (λ xs. on_outcome (dictionary_made (in_pairs xs) (heap_map built G.heap) w.units) (on_and_push here (stack_of w.store L)) S) (reverse-reverse vs)
-       ∙ ap (λ xs. on_outcome (dictionary_made xs (heap_map built G.heap) w.units) (on_and_push here (stack_of w.store L)) S) (rows_paired kvs)
-       ∙ ap (λ z. on_outcome z (on_and_push here (stack_of w.store L)) S) (dictionary_made-heap_map built G.heap kvs w.units))))))
+      ∙ ap (λ j. let t = taken (floor_in c) j S.stack in on_outcome (dictionary_made (in_pairs (reverse t.0)) (heap_map built G.heap) w.units) (on_and_push here t.1) S) (sym many)
+      ∙ ap (λ t. on_outcome (dictionary_made (in_pairs (reverse t.0)) (heap_map built G.heap) w.units) (on_and_push here t.1) S) (taken_pic c vs L w h.framed)
+      ∙ ap (λ xs. on_outcome (dictionary_made (in_pairs xs) (heap_map built G.heap) w.units) (on_and_push here (stack_of w.store L)) S) (reverse-reverse vs)
+      ∙ ap (λ xs. on_outcome (dictionary_made xs (heap_map built G.heap) w.units) (on_and_push here (stack_of w.store L)) S) (rows_paired kvs)
+      ∙ ap (λ z. on_outcome z (on_and_push here (stack_of w.store L)) S) (dictionary_made-heap_map built G.heap kvs w.units))))))
 
   -- a native on its arguments
   pub native_call_runs : (f : Native) (vs : List Val) → slice_get g.code place ≡ Some (Begins (o.CallGlobal f (length vs))) → place + 3 ≡ q → Run g n (landings c) (at c place (temps vs L) G w) G (ExpAt g n c q L) (call_native d f vs w)
@@ -330,11 +330,11 @@ module _ (g : Given) (n d : ℕ) (c : Ctx) (ρ : Env) (place : ℕ) (L : List Se
       let here = spot c place (place + 3) in
       let dep : suc (length c.frames) - 1 ≡ d = omega (arith, h.framed.depth) in
       let acts : step g.fixed g.code S ≡ cond (is_fetch f && nat_le most_requests (count_by is_request w.trace)) (ends end.TooManyFetches S) (vm.of_native here (stack_of w.store L) (native.called_map built (called f vs G.heap (m.spent_at d w))) S) =
-          op_is g (o.CallGlobal f (length vs)) c place (temps vs L) G w is
-          ∙ ap (λ t. call_global f here t S) (taken_pic c vs L w h.framed)
-          ∙ ap (λ xs. cond (is_fetch f && nat_le most_requests (count_by is_request w.trace)) (ends end.TooManyFetches S) (vm.of_native here (stack_of w.store L) (called f xs (heap_map built G.heap) (spent_by S)) S)) (reverse-reverse vs)
-          ∙ ap (λ k. cond (is_fetch f && nat_le most_requests (count_by is_request w.trace)) (ends end.TooManyFetches S) (vm.of_native here (stack_of w.store L) (called f vs (heap_map built G.heap) (record { turns = w.turns; units = w.units; depth = k })) S)) dep
-          ∙ ap (λ z. cond (is_fetch f && nat_le most_requests (count_by is_request w.trace)) (ends end.TooManyFetches S) (vm.of_native here (stack_of w.store L) z S)) (called-heap_map built f vs G.heap (m.spent_at d w)) in
+      op_is g (o.CallGlobal f (length vs)) c place (temps vs L) G w is
+      ∙ ap (λ t. call_global f here t S) (taken_pic c vs L w h.framed)
+      ∙ ap (λ xs. cond (is_fetch f && nat_le most_requests (count_by is_request w.trace)) (ends end.TooManyFetches S) (vm.of_native here (stack_of w.store L) (called f xs (heap_map built G.heap) (spent_by S)) S)) (reverse-reverse vs)
+      ∙ ap (λ k. cond (is_fetch f && nat_le most_requests (count_by is_request w.trace)) (ends end.TooManyFetches S) (vm.of_native here (stack_of w.store L) (called f vs (heap_map built G.heap) (record { turns = w.turns; units = w.units; depth = k })) S)) dep
+      ∙ ap (λ z. cond (is_fetch f && nat_le most_requests (count_by is_request w.trace)) (ends end.TooManyFetches S) (vm.of_native here (stack_of w.store L) z S)) (called-heap_map built f vs G.heap (m.spent_at d w)) in
       let one : called f vs w.heap (m.spent_at d w) ≡ native.called_map meant (called f vs G.heap (m.spent_at d w)) = ap (λ z. called f vs z (m.spent_at d w)) h.kept.heap ∙ called-heap_map meant f vs G.heap (m.spent_at d w) in
       let rd : Ready g n d c place (temps vs L) G w = ready_with is (omega arith) u (framed_temps c vs L h.framed) (fits_temps vs L h).kept in
       subst (λ z. Run g n (landings c) S G (ExpAt g n c q L) (cond (is_fetch f && nat_le most_requests (count_by is_request w.trace)) (m.Spends m.TooManyFetches w) (mean.of_native z w))) (sym one)

@@ -104,9 +104,9 @@ module _ (g : Given) (n d : ℕ) where
       let set : with_value (y ∷ stack_of w.store M) (c.base + i) x ≡ x ∷ stack_of w.store M = rw t refl in
       one_step g S (at c (p + 2) (Temp x ∷ M) G w)
       (op_is g (o.SetLocal i) c p (Temp x ∷ Temp y ∷ M) G w is
-       ∙ ap (λ t. let there : State = on_with here t.1 S in record there { stack = with_value there.stack (c.base + i) t.0 }) (top_pic c (Temp x) (Temp y ∷ M) w h.framed)
-       ∙ ap (λ (z : State). record z { stack = with_value z.stack (c.base + i) x }) (on_pic c p (p + 2) (Temp x ∷ []) (Temp y ∷ M) G w h.kept.layout)
-       ∙ ap (λ st. record (at c (p + 2) (Temp x ∷ M) G w) { stack = st }) set)
+      ∙ ap (λ t. let there : State = on_with here t.1 S in record there { stack = with_value there.stack (c.base + i) t.0 }) (top_pic c (Temp x) (Temp y ∷ M) w h.framed)
+      ∙ ap (λ (z : State). record z { stack = with_value z.stack (c.base + i) x }) (on_pic c p (p + 2) (Temp x ∷ []) (Temp y ∷ M) G w h.kept.layout)
+      ∙ ap (λ st. record (at c (p + 2) (Temp x ∷ M) G w) { stack = st }) set)
       (passes g c p (p + 2) (Temp x ∷ Temp y ∷ M) (Temp x ∷ M) G G w w is (omega arith) (omega arith))
 
   -- after a block whose locals come off, with the names in sight that were there before
@@ -185,9 +185,9 @@ module _ (g : Given) (n d : ℕ) (c : Ctx) (L : List Seat) (full : length L ≡ 
       let K = first + key_count k in
       stm_then g n d (key_runs k keys values size v i ρ p G w p1 has e (under_less c.own (omega (arith, e1)) u) h)
       (λ ρ1 w1 G1 s1 x1 gone.
-          run_on g n (StmAt g n d ch q (turn_frame k x c.scope) (x ∷ with_word k c.words) (x ∷ with_word k c.sight) (1 + count_name k) M1)
-          (λ f w2 G2 s2 r. more_goes g n d ch (with_name k ch.scope) (with_word k c.words) (with_word k c.sight) q (turn_frame k x c.scope) (x ∷ with_word k c.words) (x ∷ with_word k c.sight) 1 (count_name k) gone.new M1 gone.many f w2 G2 s2 r)
-          (exp_then g n (item_get g n d c1 ρ1 p1 (K + 1) (K + 3) values (Int i) (gone.new ++ M1) G1 w1 q has1
-            (seat_over gone.new M1 (c.base + (K + 1)) (Temp values) (values_seat k keys values size v i L c.base first full))
-            (seat_over gone.new M1 (c.base + (K + 3)) (Temp (Int i)) (index_seat k keys values size v i L c.base first full)) gone.fits (sym e1) u)
-          (λ y w2 G2 x2 k2. let_runs g n d c1 ρ1 q x (gone.new ++ M1) y G2 w2 (fits_on gone.fits x2 k2) gone.full)))
+      run_on g n (StmAt g n d ch q (turn_frame k x c.scope) (x ∷ with_word k c.words) (x ∷ with_word k c.sight) (1 + count_name k) M1)
+      (λ f w2 G2 s2 r. more_goes g n d ch (with_name k ch.scope) (with_word k c.words) (with_word k c.sight) q (turn_frame k x c.scope) (x ∷ with_word k c.words) (x ∷ with_word k c.sight) 1 (count_name k) gone.new M1 gone.many f w2 G2 s2 r)
+      (exp_then g n (item_get g n d c1 ρ1 p1 (K + 1) (K + 3) values (Int i) (gone.new ++ M1) G1 w1 q has1
+      (seat_over gone.new M1 (c.base + (K + 1)) (Temp values) (values_seat k keys values size v i L c.base first full))
+      (seat_over gone.new M1 (c.base + (K + 3)) (Temp (Int i)) (index_seat k keys values size v i L c.base first full)) gone.fits (sym e1) u)
+      (λ y w2 G2 x2 k2. let_runs g n d c1 ρ1 q x (gone.new ++ M1) y G2 w2 (fits_on gone.fits x2 k2) gone.full)))

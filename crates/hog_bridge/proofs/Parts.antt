@@ -53,8 +53,12 @@ pub record ExpAt (g : Given) (n : ℕ) (c : Ctx) (place : ℕ) (L : List Seat) (
 -- another heap, in which texts and functions are as before
 pub kept_heap : {g : Given} {n : ℕ} {L : List Seat} {G : Ghost} {w : World} (h1 : HeapOf Twin) (units : ℕ) → Kept g n L G w → Keeps G.heap h1 → AllFuns (FunOk g.code G.owners) h1 → Kept g n L (record G { heap = h1 }) (m.with_heap w (heap_map meant h1) units)
 kept_heap h1 units k keeps funs = record {
-  layout = k.layout; owners = k.owners; heap = refl; funs = funs;
-  texts = λ p t e. keeps.texts _ t (k.texts p t e); turns = k.turns;
+  layout = k.layout;
+  owners = k.owners;
+  heap = refl;
+  funs = funs;
+  texts = λ p t e. keeps.texts _ t (k.texts p t e);
+  turns = k.turns;
 }
 
 -- the place is passed, and no turn comes back
@@ -129,8 +133,12 @@ module _ (g : Given) (n d : ℕ) (c : Ctx) (place : ℕ) (M L : List Seat) (G : 
       let w1 : World = e.with_spent s (m.with_heap w (heap_map meant h) s.units) in
       let k = r.kept in
       let kept : Kept g n L G1 w1 = record {
-        layout = lower (length w.store) M L k.layout; owners = k.owners; heap = refl; funs = funs;
-        texts = λ p t q. keeps.texts _ t (k.texts p t q); turns = omega (arith, k.turns);
+        layout = lower (length w.store) M L k.layout;
+        owners = k.owners;
+        heap = refl;
+        funs = funs;
+        texts = λ p t q. keeps.texts _ t (k.texts p t q);
+        turns = omega (arith, k.turns);
       } in
       gives_with g n (one_step g S1 (at c behind (Temp v ∷ L) G1 w1) (is ∙ ap (push v) (on_pic c place behind M L G1 w1 k.layout)) (passes g c place behind (M ++ L) (Temp v ∷ L) G G1 w w1 r.at_op after le))
       (record { owners = ([], sym (append-nil G.owners)); heap = keeps }) (record { is = refl; kept = kept })
@@ -141,7 +149,12 @@ module _ (g : Given) (n d : ℕ) (c : Ctx) (place : ℕ) (M L : List Seat) (G : 
       let w1 : World = m.said (Printed text) (e.with_spent s w) in
       let k = r.kept in
       let kept : Kept g n L G w1 = record {
-        layout = lower (length w.store) M L k.layout; owners = k.owners; heap = k.heap; funs = k.funs; texts = k.texts; turns = omega (arith, k.turns);
+        layout = lower (length w.store) M L k.layout;
+        owners = k.owners;
+        heap = k.heap;
+        funs = k.funs;
+        texts = k.texts;
+        turns = omega (arith, k.turns);
       } in
       gives g n (one_step g S1 (at c behind (Temp Null ∷ L) G w1) (is ∙ ap (push Null) (on_pic c place behind M L G w1 k.layout)) (passes g c place behind (M ++ L) (Temp Null ∷ L) G G w w1 r.at_op after le))
       (record { is = refl; kept = kept })
@@ -166,10 +179,18 @@ module _ (g : Given) (n d : ℕ) (c : Ctx) (place : ℕ) (M L : List Seat) (G : 
         omega (arith, p, u, v, h)
 
     replied_runs : (rs : List Reply) → w.replies ≡ rs → Run g n (landings c) S1 G (ExpAt g n c behind L) (e.replied rs asked)
-    replied_runs [] none = record { ends = record {
-      last = waiting; comes = one_step g S1 waiting first (let q = double (psi g waiting) (omega arith) in omega (arith, q)); mode = refl; none = none;
-      trace = refl; turns = refl; units = refl; heap = same_heap G.heap r.kept.heap;
-    } }
+    replied_runs [] none = record {
+      ends = record {
+        last = waiting;
+        comes = one_step g S1 waiting first (let q = double (psi g waiting) (omega arith) in omega (arith, q));
+        mode = refl;
+        none = none;
+        trace = refl;
+        turns = refl;
+        units = refl;
+        heap = same_heap G.heap r.kept.heap;
+      };
+    }
     replied_runs (y ∷ ys) some =
         subst (λ z. Run g n (landings c) S1 G (ExpAt g n c behind L) (m.of_outcome z (record asked { replies = ys }))) (sym (ap (λ x. response y.status y.body x s.units) r.kept.heap ∙ response-heap_map meant y.status y.body G.heap s.units))
         (go (response y.status y.body G.heap s.units) (response_fair (FunOk g.code G.owners) y.status y.body G.heap s.units r.kept.funs) (response_calm y.status y.body G.heap s.units)
@@ -181,8 +202,12 @@ module _ (g : Given) (n d : ℕ) (c : Ctx) (place : ℕ) (M L : List Seat) (G : 
             let w1 : World = m.with_heap (record asked { replies = ys }) (heap_map meant h) units in
             let k = r.kept in
             let kept : Kept g n L G1 w1 = record {
-              layout = lower (length w.store) M L k.layout; owners = k.owners; heap = refl; funs = f.1;
-              texts = λ p t q. f.0.texts _ t (k.texts p t q); turns = omega (arith, k.turns);
+              layout = lower (length w.store) M L k.layout;
+              owners = k.owners;
+              heap = refl;
+              funs = f.1;
+              texts = λ p t q. f.0.texts _ t (k.texts p t q);
+              turns = omega (arith, k.turns);
             } in
             gives_with g n (two_steps g S1 waiting (at c behind (Temp v ∷ L) G1 w1) first second (let q = double (psi g waiting) (omega arith) in omega (arith, q)) (double _ (omega arith)))
             (record { owners = ([], sym (append-nil G.owners)); heap = f.0 }) (record { is = refl; kept = kept })

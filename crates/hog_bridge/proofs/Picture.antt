@@ -69,8 +69,16 @@ frame place base function = record { place = place; base = base; function = func
 abbrev pub pic : List Frame → List Landing → List Seat → Ghost → World → State
 pic fs ls L G w =
     record {
-      stack = stack_of w.store L; frames = fs; throws = throws_of ls; upvalues = ups_of L w.store G.owners;
-      heap = heap_map built G.heap; turns = w.turns; units = w.units; trace = w.trace; replies = w.replies; mode = Running;
+      stack = stack_of w.store L;
+      frames = fs;
+      throws = throws_of ls;
+      upvalues = ups_of L w.store G.owners;
+      heap = heap_map built G.heap;
+      turns = w.turns;
+      units = w.units;
+      trace = w.trace;
+      replies = w.replies;
+      mode = Running;
     }
 
 -- how many operations the frames have before them
@@ -116,7 +124,7 @@ module _ (g : Given) where
     by = steps-add a.count b.count s ∙ ap (go_on b.count) a.by ∙ b.by;
     paid = λ j le. ⊎_elim (λ lt. a.paid j (omega arith))
         (λ ge. let all = subst (λ z. a.count + psi g z ≤ psi g s) a.by (a.paid a.count (omega arith)) in
-               paid_then a.count j s s1 a.by ge all (b.paid (j - a.count) (omega arith)))
+        paid_then a.count j s s1 a.by ge all (b.paid (j - a.count) (omega arith)))
         (cases_lt j a.count);
   }
 

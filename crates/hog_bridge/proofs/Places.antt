@@ -148,9 +148,9 @@ seat_place n (Var y ∷ L) p x d e =
     ⊎_elim
     (λ h. let e1 : Some (Var y) ≡ Some (Var x) = rw h.0 at e in let same : y ≡ x = cc in grind (arith, nat_tests))
     (λ h. let e1 : seat_at L p ≡ Some (Var x) = rw h.0 at e in
-          let ih = seat_place n L p x d.2 e1 in
-          let ne : y ≢ x = λ q. absurd (let none = d.1 in let none2 : place_of L x ≡ None = subst (λ z. place_of L z ≡ None) q none in cc) in
-          grind (arith, nat_tests))
+    let ih = seat_place n L p x d.2 e1 in
+    let ne : y ≢ x = λ q. absurd (let none = d.1 in let none2 : place_of L x ≡ None = subst (λ z. place_of L z ≡ None) q none in cc) in
+    grind (arith, nat_tests))
     (eqb_tells (length L) p)
 
 -- the temporaries of a list of values, the first one deepest

@@ -174,9 +174,8 @@ module _ (g : Given) (n d : ℕ) (again : Effect) (ih : Follows g again n) (c : 
       run_after g n (comes_then g s1 (comes_then g s2 (comes_then g s3 (comes_to g s4 (ap (λ z. at c z M1 G w) there))))) (extends_same G)
       (back_runs g n d c pj p (span C1 + span X1) M1 G w (PlainEnd g n d c q L) (again d (LoopOver copies i2 b) ρ) (loop_back g p C1 X1 has_loop) (loop_again p C1 X1) q (omega (arith, less, there)) u (framed_scope c.scope c.words c.sight hh2.framed) hh2.kept
       (λ lt. run_more g (n - 1) n (omega arith) (PlainEnd g n d c q L) (stm_more g (n - 1) n (omega arith) d c q c.scope c.words c.sight 0 L)
-             (ih.over (n - 1) (omega (arith, h.kept.turns, lt)) d copies i2 v b c ρ p q L G (record w { turns = w.turns + 1 }) e has sub ok (fits_turn g n d lt h) full
-             (record { count = count; index = j + 1; size_is = sized; index_is = refl; small = small; within = omega (arith, le) }) u)))
-
+      (ih.over (n - 1) (omega (arith, h.kept.turns, lt)) d copies i2 v b c ρ p q L G (record w { turns = w.turns + 1 }) e has sub ok (fits_turn g n d lt h) full
+      (record { count = count; index = j + 1; size_is = sized; index_is = refl; small = small; within = omega (arith, le) }) u)))
 
   distinct_seats : (k : Option Word) (j : ℕ) (z : ℕ) → Distinct z (seats k keys values size v (pos j) L) → Distinct z L
   distinct_seats None j z dist = dist
@@ -216,18 +215,19 @@ module _ (g : Given) (n d : ℕ) (again : Effect) (ih : Follows g again n) (c : 
           let less : pb g c k x b p has_loop ≤ q = omega (arith, ends_at, loop_ends, in_row g c k x b p has_loop) in
           let are = pops_after (lets b) (1 + count_name k) (block_pops b) (MoreOp (pop_op x (stms_frees false b)) (key_pop k (stms_frees false b))) (block_are_pops b) (more_pops k) in
           let r = stm_then g n d (bind_runs g n d c L full k x keys values size size v (pos j) ρ (pk g c k x b p has_loop) G w (pi g c k x b p has_loop) (pb g c k x b p has_loop) (has_key g c k x b p has_loop) refl (has_item g c k x b p has_loop) refl (under_less c.own less u) hh)
-              (λ ρ1 w1 G1 s1 x1 gone.
-                  run_on g n (StmAt g n d ch (pe g c k x b p has_loop) (after_frame b TF) (after_words b WS) (after_words b VS) (lets b + (1 + count_name k)) M)
-                  (λ f w2 G2 s2 y. more_goes g n d ch TF WS VS (pe g c k x b p has_loop) (after_frame b TF) (after_words b WS) (after_words b VS) (lets b) (1 + count_name k) gone.new M gone.many f w2 G2 s2 y)
-                  (run ρ1 G1 w1 gone.new gone.fits gone.full)) in
+          (λ ρ1 w1 G1 s1 x1 gone.
+          run_on g n (StmAt g n d ch (pe g c k x b p has_loop) (after_frame b TF) (after_words b WS) (after_words b VS) (lets b + (1 + count_name k)) M)
+          (λ f w2 G2 s2 y. more_goes g n d ch TF WS VS (pe g c k x b p has_loop) (after_frame b TF) (after_words b WS) (after_words b VS) (lets b) (1 + count_name k) gone.new M gone.many f w2 G2 s2 y)
+          (run ρ1 G1 w1 gone.new gone.fits gone.full)) in
           leave_then g n d (pn g c k x b p has_loop) (block_pops b ⊕ MoreOp (pop_op x (stms_frees false b)) (key_pop k (stms_frees false b))) (λ ρ1 w3. m.with_turn w3 (again d (LoopOver copies (pos j +ℤ pos 1) b) ρ1)) hh are (has_pops g c k x b p has_loop) refl r
           (λ w2 G2 x2 hh2.
-              let h2 = fits_on h x2 (kept_on L hh2.kept (distinct_seats k j (length w2.store) hh2.kept.layout)) in
-              next_runs ρ j count G2 w2 sized small le h2 hh2)
+          let h2 = fits_on h x2 (kept_on L hh2.kept (distinct_seats k j (length w2.store) hh2.kept.layout)) in
+          next_runs ρ j count G2 w2 sized small le h2 hh2)
           (λ v2 w2 G2 s2 y. y)
         where
           within : int_le (pos j) (pos count) ≡ true → j ≤ count
           within t2 = let t3 : nat_le j count ≡ true = t2 in grind (arith, nat_tests)
+
           more_pops : (k : Option Word) → ArePops (1 + count_name k) (MoreOp (pop_op x (stms_frees false b)) (key_pop k (stms_frees false b)))
           more_pops None = (pop_is x (stms_frees false b), tt)
           more_pops (Some y) = (pop_is x (stms_frees false b), key_pops (Some y) (stms_frees false b))

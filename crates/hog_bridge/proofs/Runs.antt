@@ -109,11 +109,17 @@ module _ (program : Stms) (good : StmsOk [] program) (lits : literals_of_code (c
         let G0 : Ghost = record { owners = []; heap = h } in
         let fits : Fits g max_turns 0 (c0 ws) [] [] G0 w0 = record {
           kept = record {
-            layout = tt; owners = tt; heap = refl; funs = funs; turns = omega arith;
+            layout = tt;
+            owners = tt;
+            heap = refl;
+            funs = funs;
+            turns = omega arith;
             texts = λ p t e. placed t (subst (In t) lits (in_sorted _ [] t (code_pushes (code_of program) p t e)));
           };
           framed = record { lands = tt; floor = ([], refl); base = refl; own = tt; outer = tt; depth = refl };
-          sees = λ x i. tt; captured = refl; sight = refl;
+          sees = λ x i. tt;
+          captured = refl;
+          sight = refl;
         } in
         let r = (follows_at g (suc max_turns)).body max_turns (omega arith) 0 (ManyStms program) (c0 ws) [] 2 [] G0 w0 has_code (sub_same ws) good fits refl tt in
         let same : length (heap_map built h) ≡ length (heap_map meant h) = length-map h _ ∙ sym (length-map h _) in
@@ -166,13 +172,13 @@ module _ (program : Stms) (good : StmsOk [] program) (lits : literals_of_code (c
           let f = finishes in
           ⊎_elim
           (λ lt.
-              let grow = steps_grow g.fixed g.code (f.comes.count - k) (run k) in
-              let n : k + (f.comes.count - k) ≡ f.comes.count = omega arith in
-              let same : steps g.fixed g.code (f.comes.count - k) (run k) ≡ f.last = sym (steps-add g k (f.comes.count - k) s0) ∙ ap run n ∙ f.comes.by in
-              (grow.more, sym f.trace ∙ ap (λ (s : State). s.trace) (sym same) ∙ grow.is))
+          let grow = steps_grow g.fixed g.code (f.comes.count - k) (run k) in
+          let n : k + (f.comes.count - k) ≡ f.comes.count = omega arith in
+          let same : steps g.fixed g.code (f.comes.count - k) (run k) ≡ f.last = sym (steps-add g k (f.comes.count - k) s0) ∙ ap run n ∙ f.comes.by in
+          (grow.more, sym f.trace ∙ ap (λ (s : State). s.trace) (sym same) ∙ grow.is))
           (λ le.
-              let same : run k ≡ f.last = sym (later g f.comes.count k s0 le last_rests) ∙ f.comes.by in
-              ([], sym f.trace ∙ ap (λ (s : State). s.trace) (sym same) ∙ sym (append-nil (run k).trace)))
+          let same : run k ≡ f.last = sym (later g f.comes.count k s0 le last_rests) ∙ f.comes.by in
+          ([], sym f.trace ∙ ap (λ (s : State). s.trace) (sym same) ∙ sym (append-nil (run k).trace)))
           (cases_lt k f.comes.count)
 
       is_last : (k : ℕ) → step g.fixed g.code (run k) ≡ run k → run k ≡ finishes.last
@@ -242,17 +248,17 @@ module _ (program : Stms) (good : StmsOk [] program) (lits : literals_of_code (c
       total k t n h =
           ⊎_elim
           (λ lt.
-              let e : t ≡ max_turns + (t - max_turns) = omega arith in
-              let e2 = ap (λ x. x * suc n) e in
-              let e3 : (max_turns + (t - max_turns)) * suc n ≡ max_turns * suc n + (t - max_turns) * suc n = omega arith in
-              let e4 : (t + 1) * (n + 1) ≡ t * suc n + suc n = omega arith in
-              omega (arith, h, e2, e3, e4))
+          let e : t ≡ max_turns + (t - max_turns) = omega arith in
+          let e2 = ap (λ x. x * suc n) e in
+          let e3 : (max_turns + (t - max_turns)) * suc n ≡ max_turns * suc n + (t - max_turns) * suc n = omega arith in
+          let e4 : (t + 1) * (n + 1) ≡ t * suc n + suc n = omega arith in
+          omega (arith, h, e2, e3, e4))
           (λ le.
-              let e : (max_turns - t) + t ≡ max_turns = omega arith in
-              let e2 = ap (λ x. x * suc n) e in
-              let e3 : ((max_turns - t) + t) * suc n ≡ (max_turns - t) * suc n + t * suc n = omega arith in
-              let e4 : (t + 1) * (n + 1) ≡ t * suc n + suc n = omega arith in
-              omega (arith, h, e2, e3, e4))
+          let e : (max_turns - t) + t ≡ max_turns = omega arith in
+          let e2 = ap (λ x. x * suc n) e in
+          let e3 : ((max_turns - t) + t) * suc n ≡ (max_turns - t) * suc n + t * suc n = omega arith in
+          let e4 : (t + 1) * (n + 1) ≡ t * suc n + suc n = omega arith in
+          omega (arith, h, e2, e3, e4))
           (cases_lt max_turns t)
 
       at_first : (o : Outcome FunCell Val) → psi g (started replies o) ≤ left code 0 + max_turns * suc (left code 0)
@@ -271,8 +277,8 @@ module _ (program : Stms) (good : StmsOk [] program) (lits : literals_of_code (c
           let f = finishes in
           let s = run k in
           let within : k ≤ f.comes.count = ⊎_elim
-              (λ lt. absurd (def f.comes.count (omega arith) (subst IsOver (sym (machine_is f.comes.count ∙ f.comes.by)) (over (shows o0).end f.last f.end))))
-              (λ le. le) (cases_lt f.comes.count k) in
+          (λ lt. absurd (def f.comes.count (omega arith) (subst IsOver (sym (machine_is f.comes.count ∙ f.comes.by)) (over (shows o0).end f.last f.end))))
+          (λ le. le) (cases_lt f.comes.count k) in
           let p = f.comes.paid k within in
           let a = at_first (first_cells texts globals) in
           let b = less_one s.mode (phi code s.frames + (max_turns - s.turns) * suc (left code 0)) in

@@ -125,9 +125,11 @@ same_ascending (x ∷ xs) (y ∷ ys) a b f k =
     heads (inl e) j = sym e
     heads (inr i) (inl e) = e
     heads (inr i) (inr j) = absurd (never_both x y (above_in x xs y a.0 j) (above_in y ys x b.0 i))
+
     past : {t : Word} → In t (y ∷ ys) → In t xs → x ≡ y → In t ys
     past (inr i) j e = i
     past {t} (inl q) j e = let l = above_in x xs t a.0 j in let same : x ≡ t = e ∙ q in let m = subst (λ z. cmp z t ≡ Less) same l in absurd (never_both t t m m)
+
     back : {t : Word} → In t (x ∷ xs) → In t ys → x ≡ y → In t xs
     back (inr i) j e = i
     back {t} (inl q) j e = let l = above_in y ys t b.0 j in let same : y ≡ t = sym e ∙ q in let m = subst (λ z. cmp z t ≡ Less) same l in absurd (never_both t t m m)

@@ -76,7 +76,10 @@ pub framed_push : {d : ℕ} (c : Ctx) (t : Seat) (L : List Seat) → Framed d c 
 framed_push c t L f = record {
   lands = lands_push c.base c.function c.frames t L (landings c) f.lands;
   floor = (t ∷ f.floor.0, ap (λ xs. t ∷ xs) f.floor.1);
-  base = f.base; own = f.own; outer = f.outer; depth = f.depth;
+  base = f.base;
+  own = f.own;
+  outer = f.outer;
+  depth = f.depth;
 }
 
 pub framed_temps : {d : ℕ} (c : Ctx) (vs : List Val) (L : List Seat) → Framed d c L → Framed d c (temps vs L)
@@ -95,7 +98,8 @@ fits_push {c = c} {ρ = ρ} {L = L} {G = G} v h = record {
   kept = kept_push v h.kept;
   framed = framed_push c (Temp v) L h.framed;
   sees = sees_push c.words c.scope ρ c.base c.captured (Temp v) L G.owners h.sees;
-  captured = h.captured; sight = h.sight;
+  captured = h.captured;
+  sight = h.sight;
 }
 
 pub fits_temps : {g : Given} {n d : ℕ} {c : Ctx} {ρ : Env} {G : Ghost} {w : World} (vs : List Val) (L : List Seat) → Fits g n d c ρ L G w → Fits g n d c ρ (temps vs L) G w
@@ -117,9 +121,11 @@ floor_below c L f =
   where
     within : (l : Landing) (ls : List Landing) → Lands c.base c.function c.frames L (l ∷ ls) → length l.layout ≤ length L
     within l ls h = let e = ap (length {A = Seat}) h.1.1 ∙ length-append h.1.0 l.layout in omega arith
+
     either : (b : Bool) (n k : ℕ) → n ≤ k → cond b n 0 ≤ k
     either true n k le = le
     either false n k le = omega arith
+
     go : (own outer : List Landing) → Lands c.base c.function c.frames L (own ++ outer) → OwnLands (length c.frames) own → OuterLands (length c.frames) outer → height_of (suc (length c.frames)) (throws_of (own ++ outer)) ≤ length L
     go [] [] h o u = omega arith
     go [] (l ∷ ls) h o u = either (suc (length l.frames) == suc (length c.frames)) (length l.layout) (length L) (within l ls h)
@@ -159,12 +165,16 @@ taken_pic c vs L w f =
 -- throws
 
 keep_frames : (place : ℕ) (l : Landing) (base : ℕ) (fn : Option ℕ) (fs : List Frame) → FrameIn l base fn fs → (q : ℕ) × (keep (suc (length l.frames)) (frame place base fn ∷ fs) ≡ frame q l.base l.function ∷ l.frames)
-keep_frames place l base fn fs (inl h) =
-    (place, ap (λ xs. keep (suc (length l.frames)) (frame place base fn ∷ xs)) (sym h.2) ∙ keep_app [] (frame place base fn ∷ l.frames)
-     ∙ ap (λ b. frame place b fn ∷ l.frames) (sym h.0) ∙ ap (λ k. frame place l.base k ∷ l.frames) (sym h.1))
-keep_frames place l base fn fs (inr h) =
-    (h.1, ap (λ xs. keep (suc (length l.frames)) (frame place base fn ∷ xs)) h.2
-     ∙ keep_app (frame place base fn ∷ h.0) (frame h.1 l.base l.function ∷ l.frames))
+keep_frames place l base fn fs (inl h) = (
+  place,
+  ap (λ xs. keep (suc (length l.frames)) (frame place base fn ∷ xs)) (sym h.2) ∙ keep_app [] (frame place base fn ∷ l.frames)
+      ∙ ap (λ b. frame place b fn ∷ l.frames) (sym h.0) ∙ ap (λ k. frame place l.base k ∷ l.frames) (sym h.1),
+)
+keep_frames place l base fn fs (inr h) = (
+  h.1,
+  ap (λ xs. keep (suc (length l.frames)) (frame place base fn ∷ xs)) h.2
+      ∙ keep_app (frame place base fn ∷ h.0) (frame h.1 l.base l.function ∷ l.frames),
+)
 
 phi-append : (code : List Slot) (xs ys : List Frame) → phi code (xs ++ ys) ≡ phi code xs + phi code ys
 phi-append code [] ys = omega arith
@@ -186,17 +196,17 @@ pub shown_halts : (g : Given) (make : List ℕ → End) (v : Val) (S0 before s :
 shown_halts g make v S0 before s w h is sh wh su st bt sf bf sn bn falls =
     let same : shown s.heap v ≡ shown w.heap v = ap (λ x. shown x v) sh ∙ shown_same h v ∙ ap (λ x. shown x v) (sym wh) in
     let units : (nat_le (s.units + length (shown s.heap v)) max_units) ≡ (nat_le (w.units + length (shown w.heap v)) max_units) =
-        ap (λ k. nat_le (k + length (shown s.heap v)) max_units) su ∙ ap (λ t. nat_le (w.units + length t) max_units) same in
+    ap (λ k. nat_le (k + length (shown s.heap v)) max_units) su ∙ ap (λ t. nat_le (w.units + length t) max_units) same in
     go (shown s.heap v) (shown w.heap v) same (nat_le (s.units + length (shown s.heap v)) max_units) (nat_le (w.units + length (shown w.heap v)) max_units) units is
   where
     go : (t t2 : List ℕ) → t ≡ t2 → (b b2 : Bool) → b ≡ b2 → step g.fixed g.code S0 ≡ cond b (ends (make t) (record s { units = s.units + length t })) (ends end.MemorySpent before) → Halts g S0 (cond b2 (make t2) end.MemorySpent) w
     go t t2 e true true q is =
         let f : phi g.code s.frames + (max_turns - s.turns) * suc (left g.code 0) ≡ phi g.code S0.frames + (max_turns - S0.turns) * suc (left g.code 0) =
-            ap (λ fs. phi g.code fs + (max_turns - s.turns) * suc (left g.code 0)) sf ∙ ap (λ k. phi g.code S0.frames + (max_turns - k) * suc (left g.code 0)) sn in
+        ap (λ fs. phi g.code fs + (max_turns - s.turns) * suc (left g.code 0)) sf ∙ ap (λ k. phi g.code S0.frames + (max_turns - k) * suc (left g.code 0)) sn in
         record { last = ends (make t) (record s { units = s.units + length t }); comes = one_step g S0 _ is (omega (arith, f, falls)); mode = ap (λ x. Ended (make x)) e; trace = st }
     go t t2 e false false q is =
         let f : phi g.code before.frames + (max_turns - before.turns) * suc (left g.code 0) ≡ phi g.code S0.frames + (max_turns - S0.turns) * suc (left g.code 0) =
-            ap (λ fs. phi g.code fs + (max_turns - before.turns) * suc (left g.code 0)) bf ∙ ap (λ k. phi g.code S0.frames + (max_turns - k) * suc (left g.code 0)) bn in
+        ap (λ fs. phi g.code fs + (max_turns - before.turns) * suc (left g.code 0)) bf ∙ ap (λ k. phi g.code S0.frames + (max_turns - k) * suc (left g.code 0)) bn in
         record { last = ends end.MemorySpent before; comes = one_step g S0 _ is (omega (arith, f, falls)); mode = refl; trace = bt }
     go t t2 e true false q is = absurd (cc)
     go t t2 e false true q is = absurd (cc)
@@ -227,7 +237,9 @@ module _ (g : Given) (n : ℕ) (c : Ctx) (place : ℕ) (L : List Seat) (G : Ghos
   caught_end l ls at_op keeps k h u e =
       let f = land_falls g.code place l c.base c.function c.frames at_op u h.0 in
       record {
-        last = caught_at l ls v w1 G1; ghost' = G1; comes = one_step g _ (caught_at l ls v w1 G1) (e ∙ land l ls k h) (omega (arith, f));
+        last = caught_at l ls v w1 G1;
+        ghost' = G1;
+        comes = one_step g _ (caught_at l ls v w1 G1) (e ∙ land l ls k h) (omega (arith, f));
         extends = record { owners = ([], sym (append-nil G.owners)); heap = keeps };
         holds = record {
           is = refl;

@@ -33,8 +33,10 @@ use Rattle.hog_bridge.proofs.Statements.{option_name_pops, block_runs, for_turn,
 
 pub less : {g : Given} {again : Effect} (i n : ℕ) → i ≤ n → Follows g again n → Follows g again i
 less i n le f = record {
-  loop = λ j lt. f.loop j (omega arith); stepped = λ j lt. f.stepped j (omega arith);
-  over = λ j lt. f.over j (omega arith); body = λ j lt. f.body j (omega arith);
+  loop = λ j lt. f.loop j (omega arith);
+  stepped = λ j lt. f.stepped j (omega arith);
+  over = λ j lt. f.over j (omega arith);
+  body = λ j lt. f.body j (omega arith);
 }
 
 module _ (g : Given) (n d : ℕ) (again : Effect) (f : Follows g again n) where
@@ -58,9 +60,9 @@ module _ (g : Given) (n d : ℕ) (again : Effect) (f : Follows g again n) where
       subst (λ z. Run g n (landings c) (at c p (hidden_seats copies v z L) G w) G (PlainEnd g n d c q L) (run_over again d copies z b (λ ρ1 w1. effects g.fixed again d b ρ1 w1) ρ w)) (sym range.index_is)
       (over_runs g n d again f c L full k x copies.keys copies.values copies.size v b p q e has sub ok u ρ range.index G w range.count range.size_is range.small h (λ ρ1 w3. effects g.fixed again d b ρ1 w3)
       (λ ρ1 G3 w3 N fits fullN.
-          stms_runs g n d again f b (scoped (hidden k c) (turn_frame k x c.scope) (x ∷ with_word k c.words) (x ∷ with_word k c.sight)) ρ1 (pb g c k x b p hl) (pe g c k x b p hl) (N ++ seats k copies.keys copies.values copies.size v (pos range.index) L) G3 w3 refl (has_stms g c k x b p hl)
-          (sub_past x (stms_frees true b) (sub_name k (without x (stms_frees true b)) sub)) ok fits fullN
-          (under_less c.own (omega (arith, e, row, loop_end p (p + span (over_loop k x c.scope b)) (more_code (first + key_count k + 2) (first + key_count k + 3)) (turn_code k x c.scope b) refl, span-after (over_loop k x c.scope b) (pops (4 + key_count k)))) u)))
+      stms_runs g n d again f b (scoped (hidden k c) (turn_frame k x c.scope) (x ∷ with_word k c.words) (x ∷ with_word k c.sight)) ρ1 (pb g c k x b p hl) (pe g c k x b p hl) (N ++ seats k copies.keys copies.values copies.size v (pos range.index) L) G3 w3 refl (has_stms g c k x b p hl)
+      (sub_past x (stms_frees true b) (sub_name k (without x (stms_frees true b)) sub)) ok fits fullN
+      (under_less c.own (omega (arith, e, row, loop_end p (p + span (over_loop k x c.scope b)) (more_code (first + key_count k + 2) (first + key_count k + 3)) (turn_code k x c.scope b) refl, span-after (over_loop k x c.scope b) (pops (4 + key_count k)))) u)))
 
   -- a body that falls off its end gives null
   fall_goes : (c : Ctx) (p1 k : ℕ) (fr : names.Frame) (ws V : List Word) (L : List Seat) → HasAt g.code p1 return_null → Under (p1 + 2) c.own → (flow : Flow) (w : World) (G1 : Ghost) (s1 : State) → StmAt g n d c p1 fr ws V k L flow w G1 s1 → Run g n (landings c) s1 G1 (BodyAt g n c) (fall flow w)

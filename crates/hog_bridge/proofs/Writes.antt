@@ -71,7 +71,7 @@ pub becomes : (fs : List Frame) (ls : List Landing) (vs : List Val) (v : Val) (L
 becomes fs ls vs v L G w d o =
     let M = temps vs (Var (length w.store) ∷ L) in
     let top : stack_of w.store (Temp v ∷ L) ≡ stack_of (w.store ++ v ∷ []) (Var (length w.store) ∷ L) =
-        let e1 = read_new w.store v in let e2 = stack_more w.store v L d in cc in
+    let e1 = read_new w.store v in let e2 = stack_more w.store v L d in cc in
     let st = stack_temps vs w.store (w.store ++ v ∷ []) (Temp v ∷ L) (Var (length w.store) ∷ L) top in
     let us = ups_new w.store v vs L G.owners o in
     ap (λ x. record (pic fs ls (temps vs (Temp v ∷ L)) G w) { stack = x }) st
@@ -83,7 +83,10 @@ kept_new v L {G} w k =
     record {
       layout = (omega arith, fresh_place (length w.store) L k.layout, distinct_more (length w.store) _ L (omega arith) k.layout);
       owners = owned_more (length w.store) _ G.owners (omega arith) k.owners;
-      heap = k.heap; funs = k.funs; texts = k.texts; turns = k.turns;
+      heap = k.heap;
+      funs = k.funs;
+      texts = k.texts;
+      turns = k.turns;
     }
 
 -- a write to a variable on the stack
@@ -98,15 +101,15 @@ read_set_other store x y v h = unwrap_or-slice_get (slice_set store x v) y Null 
 stack_elsewhere : (store : List Val) (x : ℕ) (v : Val) (L : List Seat) → place_of L x ≡ None → stack_of (slice_set store x v) L ≡ stack_of store L
 stack_elsewhere store x v [] e = refl
 stack_elsewhere store x v (Temp u ∷ L) e = ap (λ xs. u ∷ xs) (stack_elsewhere store x v L e)
-stack_elsewhere store x v (Var y ∷ L) e = 
+stack_elsewhere store x v (Var y ∷ L) e =
     ⊎_elim (λ h. absurd (grind (arith, nat_tests)))
     (λ h. let e1 : place_of L x ≡ None = grind (arith, nat_tests) in
-          let a = read_set_other store x y v h.1 in let b = stack_elsewhere store x v L e1 in cc)
+    let a = read_set_other store x y v h.1 in let b = stack_elsewhere store x v L e1 in cc)
     (eqb_tells y x)
 
 pub stack_write : (store : List Val) (x p : ℕ) (v : Val) (L : List Seat) → Distinct (length store) L → place_of L x ≡ Some p → with_value (stack_of store L) p v ≡ stack_of (slice_set store x v) L
 stack_write store x p v [] d e = absurd (cc)
-stack_write store x p v (Temp u ∷ L) d e = 
+stack_write store x p v (Temp u ∷ L) d e =
     let pl = placed store L x p e in let l = length-stack store L in
     let ih = stack_write store x p v L d e in
     let ne : ((length (stack_of store L)) == p) ≡ false = grind (arith, nat_tests) in
@@ -114,29 +117,29 @@ stack_write store x p v (Temp u ∷ L) d e =
 stack_write store x p v (Var y ∷ L) d e =
     let l = length-stack store L in
     ⊎_elim
-    (λ h. 
-        let p_is : length L ≡ p = grind (arith, nat_tests) in
-        let t : ((length (stack_of store L)) == p) ≡ true = grind (arith, nat_tests) in
-        let no : place_of L x ≡ None = subst (λ z. place_of L z ≡ None) h.1 d.1 in
-        let lt : x < length store = subst (λ z. z < length store) h.1 d.0 in
-        let a = read_set_same store x v lt in
-        let b = stack_elsewhere store x v L no in
-        let q = h.1 in
-        rw t cc)
     (λ h.
-        let e1 : place_of L x ≡ Some p = grind (arith, nat_tests) in
-        let pl = placed store L x p e1 in
-        let ne : ((length (stack_of store L)) == p) ≡ false = grind (arith, nat_tests) in
-        let a = read_set_other store x y v h.1 in
-        let ih = stack_write store x p v L d.2 e1 in
-        rw ne cc)
+    let p_is : length L ≡ p = grind (arith, nat_tests) in
+    let t : ((length (stack_of store L)) == p) ≡ true = grind (arith, nat_tests) in
+    let no : place_of L x ≡ None = subst (λ z. place_of L z ≡ None) h.1 d.1 in
+    let lt : x < length store = subst (λ z. z < length store) h.1 d.0 in
+    let a = read_set_same store x v lt in
+    let b = stack_elsewhere store x v L no in
+    let q = h.1 in
+    rw t cc)
+    (λ h.
+    let e1 : place_of L x ≡ Some p = grind (arith, nat_tests) in
+    let pl = placed store L x p e1 in
+    let ne : ((length (stack_of store L)) == p) ≡ false = grind (arith, nat_tests) in
+    let a = read_set_other store x y v h.1 in
+    let ih = stack_write store x p v L d.2 e1 in
+    rw ne cc)
     (eqb_tells y x)
 
 up_write : (store : List Val) (x p : ℕ) (v : Val) (L : List Seat) (o : ℕ) → place_of L x ≡ Some p → up_of L store o ≡ up_of L (slice_set store x v) o
 up_write store x p v L o e =
     ⊎_elim
     (λ h. let e1 : place_of L o ≡ Some p = subst (λ z. place_of L z ≡ Some p) (sym h.1) e in
-          ap (λ q. up_of_place q (read store o)) e1 ∙ ap (λ q. up_of_place q (read (slice_set store x v) o)) (sym e1))
+    ap (λ q. up_of_place q (read store o)) e1 ∙ ap (λ q. up_of_place q (read (slice_set store x v) o)) (sym e1))
     (λ h. ap (up_of_place (place_of L o)) (sym (read_set_other store x o v h.1)))
     (eqb_tells o x)
 
@@ -208,8 +211,10 @@ sees_local ws fr ρ base captured x var L owners full h y i = split (word_tells 
   where
     top : seat_at (Var var ∷ L) (base + length fr.locals) ≡ Some (Var var)
     top = grind (arith, nat_tests, full)
+
     At : Bool → Type 0
     At b = SeesWord (cond b (Some (length fr.locals)) (find_local fr.locals y)) (find_up fr.ups y) (cond b (Some var) (find_var ρ y)) base captured (Var var ∷ L) owners
+
     split : Tells x y → At (bytes_eq x y)
     split (inl t) = subst At (sym t.0) top
     split (inr t) = subst At (sym t.0) (sees_push ws fr ρ base captured (Var var) L owners h y (older i))

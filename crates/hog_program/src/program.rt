@@ -25,6 +25,11 @@ impl Model for Program {
 
     ghost Value = { Built };
 
+    ghost use Rattle.hog_ops.specs.Stored.{coded_ops};
+    ghost use Rattle.std.specs.Coded.{codes};
+
+    ghost coded = { Prim.hlevel (codes, coded_ops) };
+
     ghost view = { λ p. record { source = p.source; code = p.code } };
 }
 

@@ -7,6 +7,7 @@ use Rattle.hog_program.specs.Build.{IsUnbuilt}
 use Rattle.hog_program.specs.Source.{longest}
 use Rattle.hog_program.specs.Stops.{of_scope}
 use Rattle.hog_program.proofs.Refusals.{lexer_refuses, parser_refuses, same_err}
+use Rattle.hog_program.proofs.Nesting.{built_low}
 use Rattle.hog_program.proofs.Wholes.{none_unbuilt, source_of, resolved, faulty}
 use Rattle.hog_program.proofs.source.read_whole.Goals as goal
 
@@ -43,3 +44,11 @@ returns-clause-whole c =
     let found = c.in_ok-program.ensures.found in
     let source = source_of c.args.source.now c.in_ok-tokens.tokens (tree_of c.in_ok-program.program) (tree_of c.in_ok-whole.whole) found.0 c.in_ok-tokens.ensures.text short c.in_ok-tokens.ensures.tokens found.1 found.2 c.in_ok-whole.ensures in
     record { source = source; items = c.in_ok-resolve.field-0.items; resolved = resolved (tree_names c.in_ok-whole.whole) (items_of (tree_of c.in_ok-whole.whole)) c.in_ok-resolve.field-0.items c.in_ok-resolve.ensures.items }
+
+pub returns-clause-low : goal.returns-clause-low
+returns-clause-low c =
+    let short : length c.args.source.now ≤ longest = omega (arith, c.if-source-gt-MOST_BYTES.false) in
+    let found = c.in_ok-program.ensures.found in
+    let source = source_of c.args.source.now c.in_ok-tokens.tokens (tree_of c.in_ok-program.program) (tree_of c.in_ok-whole.whole) found.0 c.in_ok-tokens.ensures.text short c.in_ok-tokens.ensures.tokens found.1 found.2 c.in_ok-whole.ensures in
+    built_low c.args.source.now (tree_of c.in_ok-whole.whole)
+    (record { source = source; items = c.in_ok-resolve.field-0.items; resolved = resolved (tree_names c.in_ok-whole.whole) (items_of (tree_of c.in_ok-whole.whole)) c.in_ok-resolve.field-0.items c.in_ok-resolve.ensures.items })
