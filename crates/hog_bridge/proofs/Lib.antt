@@ -38,3 +38,4 @@ pub mod Codes
 pub mod Sorted
 pub mod Firsts
 pub mod Tasks
+pub mod Runs
