@@ -1,6 +1,15 @@
-//! The code of the language: definitions; the compiler that gives it is being built.
+//! The code of a program.
 //! Stands on hog_captures, hog_scope, hog_ops, hog_tree and hog_value.
-//! specs/Pieces.antt says what the code of jumps, loops and pops is, and Code.antt that of each form: `code_of` a program,
-//! which is what is used above.
+//! Above, `compile` gives the code that specs/Code.antt says (`code_of`), form by form; specs/Pieces.antt says what the
+//! code of jumps, loops and pops is, and specs/Nesting.antt how deep functions may stand in one another.
 //! No machine is cited.
 #![tactic(auto)]
+
+mod draft;
+mod forms;
+mod items;
+mod pieces;
+mod pops;
+mod program;
+
+pub use program::compile;

@@ -1,0 +1,17 @@
+-- Operations that are written one after another.
+use Rattle.std.proofs.Common.{◌≡◌, sym, ap, ◌∙◌}
+use Rattle.hog_ops.specs.Plain.{Ops, NoOp, ◌⊕◌}
+use Rattle.hog_ops.specs.Join.{join_assoc, join_none}
+use Rattle.hog_compiler.specs.Adds.{Adds}
+
+-- nothing
+pub adds_none : (a : Ops) → Adds a a NoOp
+adds_none a = record { is = sym (join_none a) }
+
+-- first x and then y
+pub adds_then : {a b c x y : Ops} → Adds a b x → Adds b c y → Adds a c (x ⊕ y)
+adds_then {a} {b} {c} {x} {y} first second = record { is = second.is ∙ ap (λ os. os ⊕ y) first.is ∙ join_assoc a x y }
+
+-- the same under another name
+pub adds_at : {a b x y : Ops} → x ≡ y → Adds a b x → Adds a b y
+adds_at {a} same adds = record { is = adds.is ∙ ap (λ os. a ⊕ os) same }
