@@ -70,3 +70,18 @@ pub none_left : (height : ℕ) (stack : List Val) (us : List u.Upvalue) (before 
     → ((p n : ℕ) → get nat_cmp after p ≡ Some n → p < height) → map upvalue_of us ≡ map (close height stack) (map upvalue_of us)
 none_left height stack us before after indexed same low =
     sym (close_none height stack (map upvalue_of us) (λ n p is. low p n (ap (lookup (is_at (nat_cmp p))) same ∙ indexed.listed n p (listed_open us n p is))))
+
+-- a closed upvalue as contracts see it
+seen_closed : (x : u.Upvalue) (v : Val) → upvalue_of x ≡ Closed v → x ≡ up.Closed v
+seen_closed (up.Opened q) v is = absurd cc
+seen_closed (up.Closed w) v is = let same : w ≡ v = cc in ap up.Closed same
+
+closed_of : (o : Option u.Upvalue) (v : Val) → option_map upvalue_of o ≡ Some (Closed v) → o ≡ Some (up.Closed v)
+closed_of None v is = absurd (none-some _ is)
+closed_of (Some x) v is = let same : upvalue_of x ≡ Closed v = cc in ap Some (seen_closed x v same)
+
+pub listed_closed : (us : List u.Upvalue) (n : ℕ) (v : Val) → slice_get (map upvalue_of us) n ≡ Some (Closed v) → slice_get us n ≡ Some (up.Closed v)
+listed_closed us n v is = closed_of (slice_get us n) v (sym (slice_get-map upvalue_of us n) ∙ is)
+
+pub set_seen : (us : List u.Upvalue) (n : ℕ) (v : Val) → map upvalue_of (set us n (up.Closed v)) ≡ set (map upvalue_of us) n (Closed v)
+set_seen us n v = map-set upvalue_of us n (up.Closed v)

@@ -69,3 +69,26 @@ module _ (us : List u.Upvalue) (before after : BTreeMap ℕ ℕ) (p n : ℕ) (v 
     listed = still_listed;
     there = still_there;
   }
+
+module _ (us : List u.Upvalue) (numbers : BTreeMap ℕ ℕ) (n : ℕ) (old v : Val) (indexed : IsIndexed us numbers) (at : slice_get us n ≡ Some (up.Closed old)) where
+  same_listed : (m q : ℕ) → slice_get (set us n (up.Closed v)) m ≡ Some (up.Opened q) → get nat_cmp numbers q ≡ Some m
+  same_listed m q is = ⊎_elim
+      (λ same. let closed : up.Closed v ≡ up.Opened q = set_same us n (up.Closed v) (up.Opened q) (ap (λ k. slice_get (set us n (up.Closed v)) k) (sym same) ∙ is) in absurd cc)
+      (λ other. indexed.listed m q (sym (set_other us n m (up.Closed v) other) ∙ is))
+      (cases_eq m n)
+
+  same_there : (q m : ℕ) → get nat_cmp numbers q ≡ Some m → slice_get (set us n (up.Closed v)) m ≡ Some (up.Opened q)
+  same_there q m is =
+      let own : slice_get us m ≡ Some (up.Opened q) = indexed.there q m is in
+      set_other us n m (up.Closed v) (λ same. two_kinds (ap (slice_get us) same) at own) ∙ own
+    where
+      two_kinds : {q : ℕ} {v : Val} {o r : Option u.Upvalue} → r ≡ o → o ≡ Some (up.Closed v) → r ≡ Some (up.Opened q) → ⊥
+      two_kinds step first second = cc
+
+  -- where a closed upvalue is set
+  pub indexed_set : IsIndexed (set us n (up.Closed v)) numbers
+  indexed_set = record {
+    few = subst (λ k. k < 2 ^ 32) (sym (length-set us n (up.Closed v))) indexed.few;
+    listed = same_listed;
+    there = same_there;
+  }

@@ -4,4 +4,6 @@ mod Indexed
 mod Fit
 mod Landing
 mod Tops
+mod Taking
+mod Gathered
 mod JumpLemmas

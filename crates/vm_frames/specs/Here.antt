@@ -1,6 +1,8 @@
 -- Where the machine stands, and what it keeps.
 use Rattle.std.specs.Prelude.{◌≡◌, ℕ, ◌<◌, ◌≤◌, List, [], ◌∷◌, length, All, Option, Some, None}
 use Rattle.hog_value.specs.declared.trace.End.TheVariants as end
+use Rattle.hog_value.specs.declared.value.Stop.{Stop}
+use Rattle.hog_value.specs.declared.value.Stop.TheVariants as made
 use Rattle.hog_value.specs.declared.value.SetStop.{SetStop}
 use Rattle.hog_value.specs.declared.value.SetStop.TheVariants as stop
 use Rattle.hog_value.specs.Values.{Val, NamesBelow}
@@ -50,3 +52,8 @@ abbrev pub IsStopped : SetStop → State → State → Type 0
 IsStopped (stop.Thrown kind) before after = after ≡ throw_kind kind before
 IsStopped stop.UnitsSpent before after = after ≡ ends end.MemorySpent before
 IsStopped stop.OutOfMemory before after = ⊥
+
+-- why making a cell stopped, as why setting does
+abbrev pub set_stop : Stop → SetStop
+set_stop made.UnitsSpent = stop.UnitsSpent
+set_stop made.OutOfMemory = stop.OutOfMemory

@@ -6,8 +6,11 @@
 #![tactic(auto)]
 
 mod frames;
+mod functions;
+mod gathers;
 mod jumps;
 mod machine;
+mod natives;
 mod stack;
 mod throwing;
 mod throws;

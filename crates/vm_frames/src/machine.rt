@@ -1,10 +1,10 @@
 //! The machine: what it holds, and the steps of which its operations are made.
 
-ghost use Rattle.std.specs.Prelude.{◌≡◌, ◌↔◌, ◌+◌, ◌≤◌, ◌<◌, length, IsTrue, IfOk, OnOk};
+ghost use Rattle.std.specs.Prelude.{◌≡◌, ◌↔◌, ◌+◌, ◌≤◌, ◌<◌, length, reverse, All, IsTrue, IfOk, OnOk};
 ghost use Rattle.std.specs.Bool.{OnTrue, OnFalse};
 ghost use Rattle.hog_value.specs.Meters.{max_turns};
 ghost use Rattle.hog_value.specs.Values.{NamesBelow};
-ghost use Rattle.vm_frames.specs.Stack.{value_at, with_value, or_null, keep, cut_to, push, top_of, floor_of};
+ghost use Rattle.vm_frames.specs.Stack.{value_at, with_value, or_null, keep, cut_to, push, top_of, taken, floor_of};
 ghost use Rattle.vm_frames.specs.Throws.{ends, ends_shown, goto, throw_value, throw_kind};
 ghost use Rattle.vm_frames.specs.Step.{on_with, on_and_push};
 ghost use Rattle.vm_frames.specs.Here.{here_of, innermost, others_of};
@@ -85,6 +85,27 @@ impl Machine {
         ensures names { NamesBelow (length self.now.heap) result.0 }
     {
         self.stack.top(floor, len)
+    }
+
+    /// So many operands, the topmost first, and how many values stand under them.
+    pub(crate) fn popped(&self, alloc: Global, n: u64) -> Result<(Vec<Value>, u32), AllocError>
+        ensures is { IfOk result (λ r. taken (floor_of (innermost self.now.frames) self.now) n self.now.stack ≡ (r.0.items, keep r.1 self.now.stack)) }
+        ensures within { IfOk result (λ r. r.1 ≤ length self.now.stack) }
+        ensures names { IfOk result (λ r. All (NamesBelow (length self.now.heap)) r.0.items) }
+    {
+        let floor = self.floor();
+        self.stack.popped(alloc, floor, n)
+    }
+
+    /// So many operands, the topmost last, and how many values stand under them.
+    pub(crate) fn operands(&self, alloc: Global, n: u64) -> Result<(Vec<Value>, u32), AllocError>
+        ensures is { IfOk result (λ r. taken (floor_of (innermost self.now.frames) self.now) n self.now.stack ≡ (reverse r.0.items, keep r.1 self.now.stack)) }
+        ensures within { IfOk result (λ r. r.1 ≤ length self.now.stack) }
+        ensures names { IfOk result (λ r. All (NamesBelow (length self.now.heap)) r.0.items) }
+    {
+        let (mut values, rest) = self.popped(alloc, n)?;
+        values.reverse();
+        Ok((values, rest))
     }
 
     /// Cuts the stack to its lowest `len` values, and closes the upvalues of the others. Takes no memory.

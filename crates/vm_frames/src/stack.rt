@@ -94,4 +94,26 @@ impl Stack {
             self.values[place] = v;
         }
     }
+
+    /// So many operands, the topmost first, and how many values stand under them. Below `floor` there are none: they are
+    /// null then.
+    pub(crate) fn popped(
+        &self,
+        alloc: Global,
+        floor: u32,
+        n: u64,
+    ) -> Result<(Vec<Value>, u32), AllocError>
+        ensures is { IfOk result (λ r. taken floor n self.now ≡ (r.0.items, keep r.1 self.now)) }
+        ensures within { IfOk result (λ r. r.1 ≤ length self.now) }
+        ensures names { (m : ℕ) → All (NamesBelow m) self.now → IfOk result (λ r. All (NamesBelow m) r.0.items) }
+    {
+        let mut values = Vec::new(alloc);
+        let mut rest = self.len();
+        for _ in 0..n {
+            let (v, under) = self.top(floor, rest);
+            values.push(v)?;
+            rest = under;
+        }
+        Ok((values, rest))
+    }
 }

@@ -56,7 +56,7 @@ impl Machine {
     }
 
     /// Goes back to the frame with a number, the program's being 1. Takes no memory.
-    fn land(&mut self, frames: u32)
+    pub(crate) fn land(&mut self, frames: u32)
         requires { 0 < frames }
         ensures { self.new ≡ record self.old { frames = keep frames self.old.frames } }
     {

@@ -77,6 +77,13 @@ impl Throws {
         Ok(())
     }
 
+    /// Takes all throw frames away. Takes no memory.
+    pub(crate) fn clear(&mut self)
+        ensures { self.new ≡ [] }
+    {
+        self.list.clear();
+    }
+
     /// Takes the last throw frame away. Takes no memory.
     pub(crate) fn pop(&mut self) -> Option<ThrowFrame>
         ensures last { result ≡ first_of self.old }

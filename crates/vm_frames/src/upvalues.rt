@@ -1,9 +1,11 @@
 //! Variables that functions have captured.
 
-ghost use Rattle.std.specs.Prelude.{◌≡◌, ◌<◌, ◌≤◌, ℕ, [], length, map, slice_get, slice_set, option_map, IfOk, IfNone, IfSome, Some, None};
+ghost use Rattle.std.specs.Prelude.{◌≡◌, ◌<◌, ◌≤◌, ℕ, [], All, length, map, slice_get, slice_set, option_map, IfOk, IfNone, IfSome, Some, None};
 ghost use Rattle.std.specs.BTreeMap.{get, Updates, IsUnchanged, btree_map_len};
 ghost use Rattle.std.specs.Ordering.{nat_cmp};
-ghost use Rattle.vm_frames.specs.State.{Frame as FrameView};
+ghost use Rattle.hog_value.specs.Values.{Val};
+ghost use Rattle.vm_frames.specs.State.{Frame as FrameView, Closed as Shut};
+ghost use Rattle.vm_frames.specs.Here.{ClosedBelow};
 ghost use Rattle.vm_frames.specs.Stack.{close, find_open, or_opened, or_closed, capture_one, capture_all};
 ghost use Rattle.vm_frames.specs.Views.{upvalue_of};
 
@@ -72,6 +74,14 @@ impl Upvalues {
 
     /// The upvalue with a number. Takes no memory.
     pub(crate) fn get(&self, number: u32) -> Option<Upvalue>
+        ensures value { option_map upvalue_of result ≡ slice_get self.now number }
+        ensures names { (n : ℕ) → All (ClosedBelow n) self.now → IfSome result (λ u. ClosedBelow n (upvalue_of u)) }
+    {
+        self.at(number)
+    }
+
+    /// The upvalue with a number. Takes no memory.
+    fn at(&self, number: u32) -> Option<Upvalue>
         ensures { option_map upvalue_of result ≡ slice_get self.now number }
     {
         self.list.get(number as usize).copied()
@@ -85,5 +95,13 @@ impl Upvalues {
             let v = stack.at(place as usize).unwrap_or(Value::Null);
             self.list[number as usize] = Upvalue::Closed(v);
         }
+    }
+
+    /// Sets what a closed upvalue has taken along. Takes no memory.
+    pub(crate) fn set(&mut self, number: u32, v: Value)
+        requires { (old : Val) × (slice_get self.old number ≡ Some (Shut old)) }
+        ensures { self.new ≡ slice_set self.old number (Shut v) }
+    {
+        self.list[number as usize] = Upvalue::Closed(v);
     }
 }

@@ -27,7 +27,7 @@ impl Machine {
     }
 
     /// Goes on with a result on what is left of the stack, or throws its kind.
-    fn settle(
+    pub(crate) fn settle(
         &mut self,
         alloc: Global,
         behind: u32,
@@ -45,7 +45,7 @@ impl Machine {
     }
 
     /// Throws a kind, or ends where memory is spent, as an operation on the heap has stopped.
-    fn stop(&mut self, alloc: Global, why: SetStop) -> Result<(), AllocError>
+    pub(crate) fn stop(&mut self, alloc: Global, why: SetStop) -> Result<(), AllocError>
         ensures { OnOk result (IsStopped why self.old self.new) }
     {
         match why {
