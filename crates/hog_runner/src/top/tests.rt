@@ -81,7 +81,12 @@ fn answers(rt: HostRuntime) -> Result<(), Fail> {
             0,
             "[\"_H\",1,33,2,33,1,6,38,31,38]\n",
         ),
-        calm(&["compile"], "x := 1;", 1, "refused: assigns unknown at 0\n"),
+        calm(
+            &["compile"],
+            "x := 1;",
+            1,
+            "refused: assigns unknown at 0\n",
+        ),
         calm(&[], "return 1;", 2, "refused: words\n"),
         calm(&["eval", "x"], "return 1;", 2, "refused: words\n"),
         calm(&["Eval"], "return 1;", 2, "refused: words\n"),
