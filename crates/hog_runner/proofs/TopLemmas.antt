@@ -5,7 +5,7 @@ use Rattle.hog_program.specs.Build.{IsBuilt, IsUnbuilt}
 use Rattle.hog_program.specs.Source.{IsProgram, IsNone}
 use Rattle.hog_program.specs.declared.stop.BuildStop.{BuildStop}
 use Rattle.hog_runner.specs.declared.words.Command.{Command}
-use Rattle.hog_runner.specs.declared.words.Command.TheVariants.{Eval, Fmt}
+use Rattle.hog_runner.specs.declared.words.Command.TheVariants.{Eval, Fmt, Compile}
 use Rattle.hog_runner.specs.Commands.{most_bytes, Reads, Rejects, Gives, Lacks, Outputs, Refuses, TooLarge, NoProgram, NotTaken}
 
 -- what holds of sources: each has one program, or a refusal, and never both
@@ -18,10 +18,12 @@ pub record Laws : Type 0 where
 one_program : Laws → (command : Command) (source : List ℕ) (a b : Stms) → Reads command source a → Reads command source b → a ≡ b
 one_program laws Eval source a b p q = laws.one_whole source a b p q
 one_program laws Fmt source a b p q = laws.one_tree source a b p q
+one_program laws Compile source a b p q = laws.one_whole source a b p q
 
 pub not_both : Laws → (command : Command) (source : List ℕ) (tree : Stms) (stop : BuildStop) → Reads command source tree → Rejects command source stop → ⊥
 not_both laws Eval source tree stop p n = laws.built_or_unbuilt source tree stop p n
 not_both laws Fmt source tree stop p n = laws.program_or_none source tree stop p n
+not_both laws Compile source tree stop p n = laws.built_or_unbuilt source tree stop p n
 
 pub same_command : (o : Option Command) (a b : Command) → o ≡ Some a → o ≡ Some b → a ≡ b
 same_command o a b p q = cc
@@ -29,6 +31,7 @@ same_command o a b p q = cc
 gives_or_lacks : (command : Command) (tree : Stms) (out cause : List ℕ) → Gives command tree out → Lacks command tree cause → ⊥
 gives_or_lacks Eval tree out cause gives lacks = lacks.0 gives.0
 gives_or_lacks Fmt tree out cause gives lacks = lacks
+gives_or_lacks Compile tree out cause gives lacks = lacks
 
 -- where there is something to write, nothing is refused
 pub not_refused : Laws → (command : Command) (text : List ℕ) (tree : Stms) → Reads command text tree → length text ≤ most_bytes
