@@ -1,0 +1,72 @@
+-- Upvalues that are closed, and the numbers of open ones by their places.
+use Rattle.std.proofs.Common.{◌≡◌, ◌<◌, ◌≤◌, ◌^◌, ◌≢◌, ◌⊎◌, ℕ, zero, suc, List, [], ◌∷◌, Bool, true, false, cond, length, map, set, Option, Some, None, arith, refl, ap, ap₂, sym, subst, ◌∙◌, ⊎_elim}
+use Rattle.std.proofs.lemmas.List.{length-set, map-set}
+use Rattle.std.proofs.lemmas.Option.{none-some, slice_get-map}
+use Rattle.std.proofs.lemmas.Bool.Decides.{nat_tests}
+use Rattle.std.specs.Prelude.{slice_get, option_map, nat_lt, ◌==◌}
+use Rattle.std.specs.Ordering.{nat_cmp}
+use Rattle.std.specs.Map.{lookup}
+use Rattle.std.specs.BTreeMap.{BTreeMap, get, is_at}
+use Rattle.hog_value.specs.Values.{Val}
+use Rattle.vm_frames.specs.declared.upvalues.Upvalue as u
+use Rattle.vm_frames.specs.declared.upvalues.Upvalue.TheVariants as up
+use Rattle.vm_frames.specs.State.{Upvalue, Opened, Closed}
+use Rattle.vm_frames.specs.Stack.{close, value_at, or_null}
+use Rattle.vm_frames.specs.Views.{upvalue_of, IsIndexed}
+
+module _ (height : ℕ) (stack : List Val) where
+  close_high : (p : ℕ) → height ≤ p → close height stack (Opened p) ≡ Closed (or_null (value_at stack p))
+  close_high p high =
+      let over : nat_lt p height ≡ false = grind (arith, nat_tests) in
+      ap (λ b. cond b (Opened p) (Closed (or_null (value_at stack p)))) over
+
+  close_low : (p : ℕ) → p < height → close height stack (Opened p) ≡ Opened p
+  close_low p low =
+      let under : nat_lt p height ≡ true = grind (arith, nat_tests) in
+      ap (λ b. cond b (Opened p) (Closed (or_null (value_at stack p)))) under
+
+  -- one that is closed already
+  close_one : (us : List Upvalue) (n p : ℕ) → slice_get us n ≡ Some (Opened p) → height ≤ p
+      → map (close height stack) (set us n (Closed (or_null (value_at stack p)))) ≡ map (close height stack) us
+  close_one [] n p is high = refl
+  close_one (x ∷ us) zero p is high =
+      let first : x ≡ Opened p = cc in
+      ap (λ y. y ∷ map (close height stack) us) (sym (ap (close height stack) first ∙ close_high p high))
+  close_one (x ∷ us) (suc n) p is high = ap (λ ys. close height stack x ∷ ys) (close_one us n p is high)
+
+  close_kept : (x : Upvalue) → ((p : ℕ) → x ≡ Opened p → p < height) → close height stack x ≡ x
+  close_kept (Opened p) low = close_low p (low p refl)
+  close_kept (Closed v) low = refl
+
+  -- where none is open at the height or above it
+  pub close_none : (us : List Upvalue) → ((n p : ℕ) → slice_get us n ≡ Some (Opened p) → p < height) → map (close height stack) us ≡ us
+  close_none [] low = refl
+  close_none (x ∷ us) low = ap₂ (λ y ys. y ∷ ys) (close_kept x (λ p is. low 0 p (ap Some is))) (close_none us (λ n p is. low (suc n) p is))
+
+-- an open upvalue as contracts see it
+seen_open : (x : u.Upvalue) (p : ℕ) → upvalue_of x ≡ Opened p → x ≡ up.Opened p
+seen_open (up.Opened q) p is = let same : q ≡ p = cc in ap up.Opened same
+seen_open (up.Closed v) p is = absurd cc
+
+opened_of : (o : Option u.Upvalue) (p : ℕ) → option_map upvalue_of o ≡ Some (Opened p) → o ≡ Some (up.Opened p)
+opened_of None p is = absurd (none-some _ is)
+opened_of (Some x) p is = let same : upvalue_of x ≡ Opened p = cc in ap Some (seen_open x p same)
+
+pub listed_open : (us : List u.Upvalue) (n p : ℕ) → slice_get (map upvalue_of us) n ≡ Some (Opened p) → slice_get us n ≡ Some (up.Opened p)
+listed_open us n p is = opened_of (slice_get us n) p (sym (slice_get-map upvalue_of us n) ∙ is)
+
+pub open_listed : (us : List u.Upvalue) (n p : ℕ) → slice_get us n ≡ Some (up.Opened p) → slice_get (map upvalue_of us) n ≡ Some (Opened p)
+open_listed us n p is = slice_get-map upvalue_of us n ∙ ap (option_map upvalue_of) is
+
+-- one more that is closed
+pub closed_more : (height : ℕ) (stack : List Val) (us : List u.Upvalue) (n p : ℕ) (v : Val) → slice_get us n ≡ Some (up.Opened p) → height ≤ p → v ≡ or_null (value_at stack p)
+    → map (close height stack) (map upvalue_of (set us n (up.Closed v))) ≡ map (close height stack) (map upvalue_of us)
+closed_more height stack us n p v is high same =
+    ap (map (close height stack)) (map-set upvalue_of us n (up.Closed v) ∙ ap (λ x. set (map upvalue_of us) n (Closed x)) same)
+    ∙ close_one height stack (map upvalue_of us) n p (open_listed us n p is) high
+
+-- where no place is at the height or above it, closing changes nothing
+pub none_left : (height : ℕ) (stack : List Val) (us : List u.Upvalue) (before after : BTreeMap ℕ ℕ) → IsIndexed us before → after.entries ≡ before.entries
+    → ((p n : ℕ) → get nat_cmp after p ≡ Some n → p < height) → map upvalue_of us ≡ map (close height stack) (map upvalue_of us)
+none_left height stack us before after indexed same low =
+    sym (close_none height stack (map upvalue_of us) (λ n p is. low p n (ap (lookup (is_at (nat_cmp p))) same ∙ indexed.listed n p (listed_open us n p is))))

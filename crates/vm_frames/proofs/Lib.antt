@@ -1,0 +1,7 @@
+mod Lists
+mod Closing
+mod Indexed
+mod Fit
+mod Landing
+mod Tops
+mod JumpLemmas

@@ -1,0 +1,52 @@
+-- Where the machine stands, and what it keeps.
+use Rattle.std.specs.Prelude.{◌≡◌, ℕ, ◌<◌, ◌≤◌, List, [], ◌∷◌, length, All, Option, Some, None}
+use Rattle.hog_value.specs.declared.trace.End.TheVariants as end
+use Rattle.hog_value.specs.declared.value.SetStop.{SetStop}
+use Rattle.hog_value.specs.declared.value.SetStop.TheVariants as stop
+use Rattle.hog_value.specs.Values.{Val, NamesBelow}
+use Rattle.hog_value.specs.Cells.{IsCovered}
+use Rattle.hog_ops.specs.Plain.{Op}
+use Rattle.hog_meaning.specs.World.{Fixed}
+use Rattle.vm_frames.specs.State.{Slot, Upvalue, Opened, Closed, Frame, State}
+use Rattle.vm_frames.specs.Stack.{floor_of}
+use Rattle.vm_frames.specs.Throws.{ends, throw_kind}
+use Rattle.vm_frames.specs.Step.{Here, here_at, act}
+
+-- the first of a list, and the others
+abbrev pub first_of : {A : Type 0} → List A → Option A
+first_of [] = None
+first_of (x ∷ xs) = Some x
+
+abbrev pub others_of : {A : Type 0} → List A → List A
+others_of [] = []
+others_of (x ∷ xs) = xs
+
+-- the innermost frame, and those around it
+abbrev pub innermost : List Frame → Frame
+innermost [] = record { place = 0; base = 0; function = None }
+innermost (f ∷ fs) = f
+
+-- where an operation of the innermost frame stands, whose end is at a place
+abbrev pub here_of : ℕ → State → Here
+here_of behind s = here_at behind (innermost s.frames) (others_of s.frames) s
+
+-- the value that an upvalue has taken along names one of the first n cells, where it names one
+abbrev pub ClosedBelow : ℕ → Upvalue → Type 0
+ClosedBelow n (Opened p) = Unit {0}
+ClosedBelow n (Closed v) = NamesBelow n v
+
+-- what every machine keeps: its values name cells of its heap, and at least eight units are spent for each cell
+pub record IsFit (s : State) : Type 0 where
+  pub values : All (NamesBelow (length s.heap)) s.stack
+  pub taken : All (ClosedBelow (length s.heap)) s.upvalues
+  pub covered : IsCovered s.heap s.units
+
+-- an operation was done, whose end is at a place
+abbrev pub Does : Op → ℕ → State → State → Type 0
+Does op behind before after = (fixed : Fixed) (code : List Slot) → after ≡ act fixed code op (here_of behind before) before
+
+-- An operation on the heap has stopped: its kind was thrown, or memory is spent. Want of memory ends no run.
+abbrev pub IsStopped : SetStop → State → State → Type 0
+IsStopped (stop.Thrown kind) before after = after ≡ throw_kind kind before
+IsStopped stop.UnitsSpent before after = after ≡ ends end.MemorySpent before
+IsStopped stop.OutOfMemory before after = ⊥

@@ -1,0 +1,87 @@
+//! The calls that a machine is in.
+
+ghost use Rattle.std.specs.Prelude.{◌≡◌, ◌≤◌, ◌<◌, [], ◌∷◌, length, OnOk, OnErr};
+ghost use Rattle.vm_frames.specs.Stack.{keep};
+ghost use Rattle.vm_frames.specs.Here.{first_of, others_of};
+
+use std::alloc::{AllocError, Global};
+use std::marker::Model;
+
+/// A call: the place of its next operation, where its locals begin on the stack, and the cell of its function.
+#[derive(Clone, Copy)]
+pub(crate) struct Frame {
+    pub(crate) place: u32,
+    pub(crate) base: u32,
+    pub(crate) function: Option<u32>,
+}
+
+impl Model for Frame {
+    ghost use Rattle.vm_frames.specs.State.{Frame};
+
+    ghost Value = { Frame };
+
+    ghost view = { λ f. record { place = f.place; base = f.base; function = f.function } };
+
+    ghost inverse = { λ f. record { place = f.place; base = f.base; function = f.function } };
+}
+
+/// Calls, at most 256. Contracts see the list of them, with the innermost first.
+#[derive(Drop)]
+pub(crate) struct Frames {
+    list: Vec<Frame>,
+}
+
+impl Model for Frames {
+    ghost use Rattle.std.specs.Prelude.{List, ◌≤◌, length, reverse};
+    ghost use Rattle.vm_frames.specs.State.{Frame};
+
+    ghost Value = { List Frame };
+
+    ghost view = { λ f. reverse f.list.items };
+
+    ghost invariant = { λ f. length f.list.items ≤ 256 };
+}
+
+impl Frames {
+    /// No calls. Takes no memory.
+    pub(crate) fn new(alloc: Global) -> Frames
+        ensures { result ≡ [] }
+    {
+        Frames {
+            list: Vec::new(alloc),
+        }
+    }
+
+    /// How many calls there are. Takes no memory.
+    pub(crate) fn len(&self) -> u32
+        ensures count { result ≡ length self.now }
+        ensures few { result ≤ 256 }
+    {
+        self.list.len() as u32
+    }
+
+    /// Adds a call.
+    pub(crate) fn push(&mut self, frame: Frame) -> Result<(), AllocError>
+        requires { length self.old < 256 }
+        ensures ok { OnOk result (self.new ≡ frame ∷ self.old) }
+        ensures err { OnErr result (self.new ≡ self.old) }
+    {
+        self.list.push(frame)?;
+        Ok(())
+    }
+
+    /// Takes the innermost call away. Takes no memory.
+    pub(crate) fn pop(&mut self) -> Option<Frame>
+        ensures last { result ≡ first_of self.old }
+        ensures rest { self.new ≡ others_of self.old }
+    {
+        self.list.pop()
+    }
+
+    /// Keeps the outermost calls. Takes no memory.
+    pub(crate) fn keep(&mut self, count: u32)
+        ensures { self.new ≡ keep count self.old }
+    {
+        self.list.truncate(count as usize);
+    }
+}

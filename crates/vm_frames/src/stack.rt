@@ -1,0 +1,97 @@
+//! The values of a machine's stack.
+
+ghost use Rattle.std.specs.Prelude.{◌≡◌, ◌<◌, ◌≤◌, ◌^◌, ℕ, [], ◌∷◌, All, length, min, reverse, IfOk, IfSome, OnOk, OnErr};
+ghost use Rattle.hog_value.specs.Values.{NamesBelow};
+ghost use Rattle.vm_frames.specs.Stack.{value_at, with_value, keep, top_of, taken};
+
+use hog_value::Value;
+use std::alloc::{AllocError, Global};
+use std::marker::Model;
+
+/// Values, fewer than 2^32. Contracts see the list of them, with the top first.
+#[derive(Drop)]
+pub(crate) struct Stack {
+    values: Vec<Value>,
+}
+
+impl Model for Stack {
+    ghost use Rattle.std.specs.Prelude.{List, ◌<◌, ◌^◌, length, reverse};
+    ghost use Rattle.hog_value.specs.declared.value.Value.{Value as Val};
+
+    ghost Value = { List Val };
+
+    ghost view = { λ s. reverse s.values.items };
+
+    ghost invariant = { λ s. length s.values.items < 2 ^ 32 };
+}
+
+impl Stack {
+    /// No values. Takes no memory.
+    pub(crate) fn new(alloc: Global) -> Stack
+        ensures { result ≡ [] }
+    {
+        Stack {
+            values: Vec::new(alloc),
+        }
+    }
+
+    /// How many values there are. Takes no memory.
+    pub(crate) fn len(&self) -> u32
+        ensures { result ≡ length self.now }
+    {
+        self.values.len() as u32
+    }
+
+    /// The value at a place, counted from the bottom. Takes no memory.
+    pub(crate) fn at(&self, place: usize) -> Option<Value>
+        ensures value { result ≡ value_at self.now place }
+        ensures names { (n : ℕ) → All (NamesBelow n) self.now → IfSome result (NamesBelow n) }
+    {
+        if place >= self.values.len() {
+            return None;
+        }
+        Some(self.values[place])
+    }
+
+    /// The topmost operand of the lowest `len` values, and how many values stand under it. Below `floor` there is none: it
+    /// is null then. Takes no memory.
+    pub(crate) fn top(&self, floor: u32, len: u32) -> (Value, u32)
+        requires { len ≤ length self.now }
+        ensures is { top_of floor (keep len self.now) ≡ (result.0, keep result.1 self.now) }
+        ensures within { result.1 ≤ len }
+        ensures names { (n : ℕ) → All (NamesBelow n) self.now → NamesBelow n result.0 }
+    {
+        if len == 0 || len <= floor {
+            return (Value::Null, len);
+        }
+        (self.values[len as usize - 1], len - 1)
+    }
+
+    /// Keeps the lowest `len` values. Takes no memory.
+    pub(crate) fn keep(&mut self, len: u32)
+        ensures { self.new ≡ keep len self.old }
+    {
+        self.values.truncate(len as usize);
+    }
+
+    /// Adds a value on top.
+    pub(crate) fn push(&mut self, v: Value) -> Result<(), AllocError>
+        ensures ok { OnOk result (self.new ≡ v ∷ self.old) }
+        ensures err { OnErr result (self.new ≡ self.old) }
+    {
+        if self.values.len() >= u32::MAX as usize {
+            return Err(AllocError);
+        }
+        self.values.push(v)?;
+        Ok(())
+    }
+
+    /// Sets the value at a place, counted from the bottom; where there is none nothing changes. Takes no memory.
+    pub(crate) fn set(&mut self, place: usize, v: Value)
+        ensures { self.new ≡ with_value self.old place v }
+    {
+        if place < self.values.len() {
+            self.values[place] = v;
+        }
+    }
+}
