@@ -1,6 +1,7 @@
 -- The machine of `return 1;` after its first operation and one more, saved, loaded, and refused in each way.
 use Rattle.std.specs.Prelude.{◌≡◌, ℕ, pos, List, [], ◌∷◌, Some, None, Ok, Err, codes}
 use Rattle.std.proofs.Common.{refl}
+use Rattle.std.specs.Fmt.{digits}
 use Rattle.serde_json.proofs.OnLiterals.{serde_json_on_literals}
 use Rattle.hog_value.specs.declared.value.Value.TheVariants.{Int}
 use Rattle.hog_value.specs.Cells.{Dict}
@@ -38,39 +39,39 @@ after_two = record {
 }
 
 saved : state_text after_two ≡ codes "[\"hog-state\",2,2,0,8,0,0,0,null,[1],[[4,0,null]],[],[],[[\"d\",[]]],[]]"
-unfolding text_in serde_json_on_literals
+unfolding text_in digits serde_json_on_literals
 saved = refl
 
 saved_before : text_in First after_two ≡ codes "[\"hog-state\",1,2,0,8,0,0,null,[1],[[4,0,null]],[],[],[[\"d\",[]]],[]]"
-unfolding text_in serde_json_on_literals
+unfolding text_in digits serde_json_on_literals
 saved_before = refl
 
 loaded : load_of one (codes "[\"hog-state\",2,2,0,8,0,0,0,null,[1],[[4,0,null]],[],[],[[\"d\",[]]],[]]") ≡ Ok after_two
-unfolding load_of of_read state_in is_written is_state belongs text_in rest_in counts_in calls_in held_in list_by serde_json_on_literals
+unfolding load_of of_read state_in is_written is_state belongs text_in rest_in counts_in calls_in held_in list_by digits serde_json_on_literals
 loaded = refl
 
 loaded_old : load_of one (codes "[\"hog-state\",1,2,0,8,0,0,null,[1],[[4,0,null]],[],[],[[\"d\",[]]],[]]") ≡ Ok after_two
-unfolding load_of of_read state_in is_written is_state belongs text_in rest_in counts_in calls_in held_in list_by serde_json_on_literals
+unfolding load_of of_read state_in is_written is_state belongs text_in rest_in counts_in calls_in held_in list_by digits serde_json_on_literals
 loaded_old = refl
 
 no_json : load_of one (codes "[") ≡ Err stops.NotJson
-unfolding load_of of_read state_in is_written is_state belongs text_in rest_in counts_in calls_in held_in list_by serde_json_on_literals
+unfolding load_of of_read state_in is_written is_state belongs text_in rest_in counts_in calls_in held_in list_by digits serde_json_on_literals
 no_json = refl
 
 no_state : load_of one (codes "[]") ≡ Err stops.NotAState
-unfolding load_of of_read state_in is_written is_state belongs text_in rest_in counts_in calls_in held_in list_by serde_json_on_literals
+unfolding load_of of_read state_in is_written is_state belongs text_in rest_in counts_in calls_in held_in list_by digits serde_json_on_literals
 no_state = refl
 
 -- no cell 1
 no_cell : load_of one (codes "[\"hog-state\",2,2,0,8,0,0,0,null,[[1]],[[4,0,null]],[],[],[[\"d\",[]]],[]]") ≡ Err stops.NotAState
-unfolding load_of of_read state_in is_written is_state belongs text_in rest_in counts_in calls_in held_in list_by serde_json_on_literals
+unfolding load_of of_read state_in is_written is_state belongs text_in rest_in counts_in calls_in held_in list_by digits serde_json_on_literals
 no_cell = refl
 
 -- the operand of INTEGER
 no_operation : load_of one (codes "[\"hog-state\",2,2,0,8,0,0,0,null,[1],[[3,0,null]],[],[],[[\"d\",[]]],[]]") ≡ Err stops.NotThisCode
-unfolding load_of of_read state_in is_written is_state belongs text_in rest_in counts_in calls_in held_in list_by serde_json_on_literals
+unfolding load_of of_read state_in is_written is_state belongs text_in rest_in counts_in calls_in held_in list_by digits serde_json_on_literals
 no_operation = refl
 
 spaced : load_of one (codes "[\"hog-state\", 2,2,0,8,0,0,0,null,[1],[[4,0,null]],[],[],[[\"d\",[]]],[]]") ≡ Err stops.NotCanonical
-unfolding load_of of_read state_in is_written is_state belongs text_in rest_in counts_in calls_in held_in list_by serde_json_on_literals
+unfolding load_of of_read state_in is_written is_state belongs text_in rest_in counts_in calls_in held_in list_by digits serde_json_on_literals
 spaced = refl

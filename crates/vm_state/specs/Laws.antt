@@ -30,7 +30,10 @@ UpvalueFits (Closed v) = ValueFits v
 
 pub record SavedFits (m : Saved) : Type 0 where
   pub ops : m.ops < 2 ^ 64
+  pub turns : m.state.turns < 2 ^ 32
+  pub units : m.state.units < 2 ^ 32
   pub used : m.used < 2 ^ 64
+  pub asked : requests_in m.state.trace < 2 ^ 32
   pub globals : IfSome m.globals (λ n. n < 2 ^ 32)
   pub stack : AllByRecursion ValueFits m.state.stack
   pub frames : AllByRecursion FrameFits m.state.frames
@@ -81,6 +84,6 @@ LoadsExactly = (code : Ops) (bytes : List ℕ) (m : Saved) → (load_of code byt
 abbrev pub RefusesExactly : Type 0
 RefusesExactly = (code : Ops) (bytes : List ℕ) (e : StateStop) → e ≢ stops.OutOfMemory → (load_of code bytes ≡ Err e) ↔ IsRefused code bytes e
 
--- what was loaded is a machine of the code
-abbrev pub LoadsMachines : Type 0
-LoadsMachines = (code : Ops) (bytes : List ℕ) (m : Saved) → load_of code bytes ≡ Ok m → IsMachineOf code m
+-- what was loaded is a state, and belongs to the code
+abbrev pub LoadsStates : Type 0
+LoadsStates = (code : Ops) (bytes : List ℕ) (m : Saved) → load_of code bytes ≡ Ok m → (is_state m ≡ true) × (belongs code m ≡ true)

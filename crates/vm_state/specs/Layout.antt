@@ -136,7 +136,7 @@ format_named word number =
     if bytes_eq word (codes "hog-state") then (if number == 1 then Some First else (if number == 2 then Some Second else None)) else None
 
 abbrev pub format_in : List Data → Option Format
-format_in (name ∷ number ∷ ds) = as_str name >>= λ word. u64_in number >>= λ n. format_named word n
+format_in (name ∷ version ∷ ds) = as_str name >>= λ word. u64_in version >>= λ n. format_named word n
 format_in _ = None
 
 -- ["hog-state",1,ops,turns,units,used,globals,end,stack,frames,throws,upvalues,heap,trace], or
@@ -146,7 +146,7 @@ written_by format (ops ∷ turns ∷ units ∷ used ∷ ds) = counts_in ops turn
 written_by format _ = None
 
 abbrev pub behind_format : List Data → List Data
-behind_format (name ∷ number ∷ ds) = ds
+behind_format (name ∷ version ∷ ds) = ds
 behind_format _ = []
 
 abbrev pub written_in_list : List Data → Option Written
