@@ -22,10 +22,10 @@ all_reverse P [] h = tt
 all_reverse P (x ∷ xs) h = subst (AllByRecursion P) (sym (reverse-append (x ∷ []) xs)) (all_push P (reverse xs) x (all_reverse P xs h.1) h.0)
 
 pub frame_back : (f : Frame) → FrameFits f → frame_in (frame_data f) ≡ Some f
-frame_back f h = rw (u32_back f.place h.0, u32_back f.base h.1.0, maybe_back f.function h.1.1) refl
+frame_back f h = rw (u32_back f.place h.0, u32_back f.base h.1, maybe_back f.function h.2) refl
 
 pub throw_back : (t : ThrowFrame) → ThrowFits t → throw_in (throw_data t) ≡ Some t
-throw_back t h = rw (u32_back t.frames h.0, u32_back t.height h.1.0, u32_back t.catch h.1.1) refl
+throw_back t h = rw (u32_back t.frames h.0, u32_back t.height h.1, u32_back t.catch h.2) refl
 
 pub upvalue_back : (u : Upvalue) → UpvalueFits u → upvalue_in (upvalue_data u) ≡ Some u
 upvalue_back (Opened p) h = rw (u32_back p h) refl

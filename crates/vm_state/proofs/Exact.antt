@@ -59,7 +59,7 @@ other_bytes xs ys h = is_false (bytes_eq xs ys) (λ e. h ((bytes_decides xs ys).
 -- from the state that was read
 from_state : (code : Ops) (bytes : List ℕ) (w : Written) → IsStateOf bytes w → load_of code bytes ≡ answer (belongs code w.saved) (bytes_eq (text_in w.format w.saved) bytes) w.saved
 unfolding load_of of_read
-from_state code bytes w h = ap (of_read code bytes) h.1.0 ∙ ap (of_written code bytes) h.1.1
+from_state code bytes w h = ap (of_read code bytes) h.1 ∙ ap (of_written code bytes) h.2
 
 answered : (mine same : Bool) (x : Saved) (b c : Bool) → mine ≡ b → same ≡ c → answer mine same x ≡ answer b c x
 answered mine same x b c e f = ap (λ p. answer p same x) e ∙ ap (λ p. answer b p x) f
@@ -83,14 +83,14 @@ loaded code bytes m =
     read_as code bytes (IsLoaded code bytes m) (Ok m) (λ h e. absurd cc) (λ d h g e. absurd cc)
     (λ w is e.
     let a = accepted (belongs code w.saved) (bytes_eq (text_in w.format w.saved) bytes) w.saved m e in
-    (w, is, a.1.1, ap (belongs code) (sym a.1.1) ∙ a.0, ap (text_in w.format) (sym a.1.1) ∙ (bytes_decides (text_in w.format w.saved) bytes).0 a.1.0))
+    (w, is, a.2, ap (belongs code) (sym a.2) ∙ a.0, ap (text_in w.format) (sym a.2) ∙ (bytes_decides (text_in w.format w.saved) bytes).0 a.1))
 
 loads : (code : Ops) (bytes : List ℕ) (m : Saved) → IsLoaded code bytes m → load_of code bytes ≡ Ok m
 loads code bytes m h =
     let w = h.0 in
-    let same = h.1.1.0 in
-    from_state code bytes w h.1.0
-    ∙ answered (belongs code w.saved) (bytes_eq (text_in w.format w.saved) bytes) w.saved true true (ap (belongs code) same ∙ h.1.1.1.0) (same_bytes (text_in w.format w.saved) bytes (ap (text_in w.format) same ∙ h.1.1.1.1))
+    let same = h.2 in
+    from_state code bytes w h.1
+    ∙ answered (belongs code w.saved) (bytes_eq (text_in w.format w.saved) bytes) w.saved true true (ap (belongs code) same ∙ h.3) (same_bytes (text_in w.format w.saved) bytes (ap (text_in w.format) same ∙ h.4))
     ∙ ap Ok same
 
 pub loads_exactly : LoadsExactly
@@ -111,14 +111,14 @@ refused code bytes stops.OutOfMemory h = absurd (h refl)
 refuses : (code : Ops) (bytes : List ℕ) (e : StateStop) → e ≢ stops.OutOfMemory → IsRefused code bytes e → load_of code bytes ≡ Err e
 unfolding load_of of_read
 refuses code bytes stops.NotJson h is = ap (of_read code bytes) is
-refuses code bytes stops.NotAState h is = ap (of_read code bytes) is.1.0 ∙ ap (of_written code bytes) is.1.1
+refuses code bytes stops.NotAState h is = ap (of_read code bytes) is.1 ∙ ap (of_written code bytes) is.2
 refuses code bytes stops.NotThisCode h is =
     let w = is.0 in
-    from_state code bytes w is.1.0 ∙ answered (belongs code w.saved) (bytes_eq (text_in w.format w.saved) bytes) w.saved false (bytes_eq (text_in w.format w.saved) bytes) is.1.1 refl
+    from_state code bytes w is.1 ∙ answered (belongs code w.saved) (bytes_eq (text_in w.format w.saved) bytes) w.saved false (bytes_eq (text_in w.format w.saved) bytes) is.2 refl
 refuses code bytes stops.NotCanonical h is =
     let w = is.0 in
-    from_state code bytes w is.1.0
-    ∙ answered (belongs code w.saved) (bytes_eq (text_in w.format w.saved) bytes) w.saved true false is.1.1.0 (other_bytes (text_in w.format w.saved) bytes is.1.1.1)
+    from_state code bytes w is.1
+    ∙ answered (belongs code w.saved) (bytes_eq (text_in w.format w.saved) bytes) w.saved true false is.2 (other_bytes (text_in w.format w.saved) bytes is.3)
 refuses code bytes stops.OutOfMemory h is = absurd (h refl)
 
 pub refuses_exactly : RefusesExactly

@@ -16,10 +16,10 @@ use Rattle.vm_state.specs.Laws.{FrameFits, ThrowFits, UpvalueFits, SavedFits}
 use Rattle.vm_state.proofs.Back.{all_reverse, all_any}
 
 frame_fine : (f : Frame) → FrameFits f → Fine 1 (frame_data f)
-frame_fine f h = fine_list 0 (small_fine 0 f.place h.0 & small_fine 0 f.base h.1.0 & maybe_fine 0 f.function h.1.1 & done)
+frame_fine f h = fine_list 0 (small_fine 0 f.place h.0 & small_fine 0 f.base h.1 & maybe_fine 0 f.function h.2 & done)
 
 throw_fine : (t : ThrowFrame) → ThrowFits t → Fine 1 (throw_data t)
-throw_fine t h = fine_list 0 (small_fine 0 t.frames h.0 & small_fine 0 t.height h.1.0 & small_fine 0 t.catch h.1.1 & done)
+throw_fine t h = fine_list 0 (small_fine 0 t.frames h.0 & small_fine 0 t.height h.1 & small_fine 0 t.catch h.2 & done)
 
 upvalue_fine : (u : Upvalue) → UpvalueFits u → Fine 2 (upvalue_data u)
 upvalue_fine (Opened p) h = fine_list 1 (small_fine 1 0 (omega arith) & small_fine 1 p h & done)
