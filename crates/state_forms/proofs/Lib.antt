@@ -1,0 +1,4 @@
+pub mod Lists
+pub mod Back
+pub mod ShownBack
+pub mod Plain

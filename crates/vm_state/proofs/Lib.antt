@@ -1,0 +1,5 @@
+pub mod Back
+pub mod Plain
+pub mod Loading
+pub mod Exact
+pub mod Formats

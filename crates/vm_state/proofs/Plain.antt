@@ -1,0 +1,57 @@
+-- A machine's data is plain and shallow, so its text reads as it.
+use Rattle.std.proofs.Common.{◌≡◌, ℕ, ◌<◌, ◌^◌, List, [], ◌∷◌, ◌++◌, Some, map, reverse, arith}
+use Rattle.std.specs.Prelude.{codes}
+use Rattle.serde_json.specs.Read.{read}
+use Rattle.plain_json.specs.Fine.{Fine, AllFine, ◌&◌, done, fine_list, fine_map, fine_more}
+use Rattle.plain_json.specs.Inverse.{reads_back}
+use Rattle.state_forms.specs.Shapes.{list, number_data}
+use Rattle.state_forms.specs.Values.{value_data, cell_data, ValueFits, CellFits}
+use Rattle.state_forms.specs.Shown.{item_data}
+use Rattle.state_forms.proofs.Plain.{number_fine, small_fine, word_fine, value_fine, cell_fine, maybe_fine, item_fine, end_fine}
+use Rattle.vm_frames.specs.State.{Upvalue, Opened, Closed, Frame, ThrowFrame, Running, Waiting, Ended, Mode, State}
+use Rattle.vm_state.specs.Saved.{Saved, Format, First, Second, requests_in}
+use Rattle.vm_state.specs.Layout.{frame_data, throw_data, upvalue_data, mode_data, rest_data, saved_data}
+use Rattle.vm_state.specs.Text.{text_in}
+use Rattle.vm_state.specs.Laws.{FrameFits, ThrowFits, UpvalueFits, SavedFits}
+use Rattle.vm_state.proofs.Back.{all_reverse, all_any}
+
+frame_fine : (f : Frame) → FrameFits f → Fine 1 (frame_data f)
+frame_fine f h = fine_list 0 (small_fine 0 f.place h.0 & small_fine 0 f.base h.1 & maybe_fine 0 f.function h.2 & done)
+
+throw_fine : (t : ThrowFrame) → ThrowFits t → Fine 1 (throw_data t)
+throw_fine t h = fine_list 0 (small_fine 0 t.frames h.0 & small_fine 0 t.height h.1 & small_fine 0 t.catch h.2 & done)
+
+upvalue_fine : (u : Upvalue) → UpvalueFits u → Fine 2 (upvalue_data u)
+upvalue_fine (Opened p) h = fine_list 1 (small_fine 1 0 (omega arith) & small_fine 1 p h & done)
+upvalue_fine (Closed v) h = fine_list 1 (small_fine 1 1 (omega arith) & value_fine v h & done)
+
+mode_fine : (m : Mode) → Fine 1 (mode_data m)
+mode_fine Running = record { plain = tt; shallow = omega arith }
+mode_fine Waiting = word_fine 1 (codes "wait")
+mode_fine (Ended e) = end_fine e
+
+rest_fine : (m : Saved) → SavedFits m → AllFine 5 (rest_data m)
+rest_fine m h =
+    maybe_fine 5 m.globals h.globals & fine_more 1 5 (omega arith) (mode_fine m.state.mode)
+    & fine_more 2 5 (omega arith) (fine_map 1 value_data ValueFits value_fine (reverse m.state.stack) (all_reverse ValueFits m.state.stack h.stack))
+    & fine_more 2 5 (omega arith) (fine_map 1 frame_data FrameFits frame_fine (reverse m.state.frames) (all_reverse FrameFits m.state.frames h.frames))
+    & fine_more 2 5 (omega arith) (fine_map 1 throw_data ThrowFits throw_fine (reverse m.state.throws) (all_reverse ThrowFits m.state.throws h.throws))
+    & fine_more 3 5 (omega arith) (fine_map 2 upvalue_data UpvalueFits upvalue_fine m.state.upvalues h.upvalues)
+    & fine_map 4 cell_data CellFits cell_fine m.state.heap h.heap
+    & fine_more 2 5 (omega arith) (fine_map 1 item_data (λ _. Unit {0}) item_fine m.state.trace (all_any m.state.trace)) & done
+
+pub saved_fine : (format : Format) (m : Saved) → SavedFits m → Fine 6 (saved_data format m)
+saved_fine First m h =
+    fine_list 5 (
+      word_fine 5 (codes "hog-state") & small_fine 5 1 (omega arith) & number_fine 5 m.ops h.ops & small_fine 5 m.state.turns h.turns
+          & small_fine 5 m.state.units h.units & number_fine 5 m.used h.used & rest_fine m h
+    )
+saved_fine Second m h =
+    fine_list 5 (
+      word_fine 5 (codes "hog-state") & small_fine 5 2 (omega arith) & number_fine 5 m.ops h.ops & small_fine 5 m.state.turns h.turns
+          & small_fine 5 m.state.units h.units & number_fine 5 m.used h.used & small_fine 5 (requests_in m.state.trace) h.asked & rest_fine m h
+    )
+
+pub text_back : (format : Format) (m : Saved) → SavedFits m → read (text_in format m) ≡ Some (saved_data format m)
+unfolding text_in
+text_back format m h = let f = saved_fine format m h in reads_back (saved_data format m) f.plain (omega (arith, f.shallow))

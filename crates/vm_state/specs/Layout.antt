@@ -1,0 +1,180 @@
+-- How a machine is written as JSON data, and how data is read as a machine.
+use Rattle.std.specs.Prelude.{ℕ, ◌==◌, ◌&&◌, List, [], ◌∷◌, ◌++◌, Bool, false, Option, Some, None, is_some, if◌then◌else◌, map, reverse, codes, bytes_eq}
+use Rattle.serde_json.specs.Data.{Data, null, string}
+use Rattle.serde_json.specs.Find.{as_null, as_str}
+use Rattle.hog_value.specs.declared.cell.FunCell.{FunCell}
+use Rattle.hog_value.specs.declared.trace.TraceItem.{TraceItem}
+use Rattle.hog_value.specs.Values.{Val}
+use Rattle.hog_value.specs.Cells.{HeapOf}
+use Rattle.state_forms.specs.Shapes.{◌>>=◌, list_in, list, list_by, u32_in, u64_in, number_data, maybe_in, maybe_data}
+use Rattle.state_forms.specs.Values.{value_in, value_data, cell_in, cell_data}
+use Rattle.state_forms.specs.Shown.{item_in, item_data, end_in, end_data}
+use Rattle.vm_frames.specs.State.{Upvalue, Opened, Closed, Frame, ThrowFrame, Running, Waiting, Ended, Mode, State}
+use Rattle.vm_state.specs.Saved.{Saved, Format, First, Second, Written, requests_in}
+
+-- [place, base, cell of the function or null]
+abbrev pub frame_in_list : List Data → Option Frame
+frame_in_list (p ∷ b ∷ f ∷ []) =
+    u32_in p >>= λ place. u32_in b >>= λ base. maybe_in u32_in f >>= λ function. Some record { place = place; base = base; function = function }
+frame_in_list _ = None
+
+abbrev pub frame_in : Data → Option Frame
+frame_in d = list_in d >>= frame_in_list
+
+abbrev pub frame_data : Frame → Data
+frame_data f = list (number_data f.place ∷ number_data f.base ∷ maybe_data number_data f.function ∷ [])
+
+-- [number of frames, stack length, catch place]
+abbrev pub throw_in_list : List Data → Option ThrowFrame
+throw_in_list (n ∷ h ∷ c ∷ []) =
+    u32_in n >>= λ frames. u32_in h >>= λ height. u32_in c >>= λ catch. Some record { frames = frames; height = height; catch = catch }
+throw_in_list _ = None
+
+abbrev pub throw_in : Data → Option ThrowFrame
+throw_in d = list_in d >>= throw_in_list
+
+abbrev pub throw_data : ThrowFrame → Data
+throw_data t = list (number_data t.frames ∷ number_data t.height ∷ number_data t.catch ∷ [])
+
+-- [0, stack place] while open, [1, value] when closed
+abbrev pub upvalue_by : ℕ → Data → Option Upvalue
+upvalue_by n d = if n == 0 then (u32_in d >>= λ place. Some (Opened place)) else (if n == 1 then (value_in d >>= λ v. Some (Closed v)) else None)
+
+abbrev pub upvalue_in_list : List Data → Option Upvalue
+upvalue_in_list (k ∷ d ∷ []) = u32_in k >>= λ n. upvalue_by n d
+upvalue_in_list _ = None
+
+abbrev pub upvalue_in : Data → Option Upvalue
+upvalue_in d = list_in d >>= upvalue_in_list
+
+abbrev pub upvalue_data : Upvalue → Data
+upvalue_data (Opened place) = list (number_data 0 ∷ number_data place ∷ [])
+upvalue_data (Closed v) = list (number_data 1 ∷ value_data v ∷ [])
+
+-- null while the machine goes on, "wait" while it waits, or its end
+abbrev pub is_wait : Option (List ℕ) → Bool
+is_wait None = false
+is_wait (Some word) = bytes_eq word (codes "wait")
+
+abbrev pub mode_in : Data → Option Mode
+mode_in d =
+    if is_some (as_null d) then Some Running
+    else (if is_wait (as_str d) then Some Waiting else (end_in d >>= λ e. Some (Ended e)))
+
+abbrev pub mode_data : Mode → Data
+mode_data Running = null
+mode_data Waiting = string (codes "wait")
+mode_data (Ended e) = end_data e
+
+-- Stack, frames and throw frames are written from the bottom: the program's frame comes first.
+
+-- ops, turns, units, used
+pub record Counts : Type 0 where
+  pub ops : ℕ
+  pub turns : ℕ
+  pub units : ℕ
+  pub used : ℕ
+
+unfoldable pub counts_in : Data → Data → Data → Data → Option Counts
+counts_in ops turns units used =
+    u64_in ops >>= λ o. u32_in turns >>= λ t. u32_in units >>= λ n. u64_in used >>= λ u. Some record { ops = o; turns = t; units = n; used = u }
+
+-- stack, frames, throws
+pub record Calls : Type 0 where
+  pub stack : List Val
+  pub frames : List Frame
+  pub throws : List ThrowFrame
+
+unfoldable pub calls_in : Data → Data → Data → Option Calls
+calls_in stack frames throws =
+    list_by value_in stack >>= λ s. list_by frame_in frames >>= λ f. list_by throw_in throws >>= λ t. Some record { stack = s; frames = f; throws = t }
+
+-- upvalues, heap, trace
+pub record Held : Type 0 where
+  pub upvalues : List Upvalue
+  pub heap : HeapOf FunCell
+  pub trace : List TraceItem
+
+unfoldable pub held_in : Data → Data → Data → Option Held
+held_in upvalues heap trace =
+    list_by upvalue_in upvalues >>= λ u. list_by cell_in heap >>= λ h. list_by item_in trace >>= λ t. Some record { upvalues = u; heap = h; trace = t }
+
+abbrev pub saved_of : Counts → Option ℕ → Mode → Calls → Held → Saved
+saved_of n globals mode c h = record {
+  ops = n.ops;
+  used = n.used;
+  globals = globals;
+  state = record {
+    stack = reverse c.stack;
+    frames = reverse c.frames;
+    throws = reverse c.throws;
+    upvalues = h.upvalues;
+    heap = h.heap;
+    turns = n.turns;
+    units = n.units;
+    trace = h.trace;
+    replies = [];
+    mode = mode;
+  };
+}
+
+-- the elements behind the counts: globals, end, stack, frames, throws, upvalues, heap, trace
+unfoldable pub rest_in : Counts → List Data → Option Saved
+rest_in n (globals ∷ ending ∷ stack ∷ frames ∷ throws ∷ upvalues ∷ heap ∷ trace ∷ []) =
+    maybe_in u32_in globals >>= λ g. mode_in ending >>= λ m. calls_in stack frames throws >>= λ c. held_in upvalues heap trace >>= λ h.
+    Some (saved_of n g m c h)
+rest_in n _ = None
+
+-- the number of requests stands before them in the second format; of the first it is counted
+abbrev pub rest_by : Format → Counts → List Data → Option Written
+rest_by First n ds = rest_in n ds >>= λ m. Some record { format = First; asked = requests_in m.state.trace; saved = m }
+rest_by Second n [] = None
+rest_by Second n (asked ∷ ds) = u32_in asked >>= λ a. rest_in n ds >>= λ m. Some record { format = Second; asked = a; saved = m }
+
+abbrev pub format_named : List ℕ → ℕ → Option Format
+format_named word number =
+    if bytes_eq word (codes "hog-state") then (if number == 1 then Some First else (if number == 2 then Some Second else None)) else None
+
+abbrev pub format_in : List Data → Option Format
+format_in (name ∷ version ∷ ds) = as_str name >>= λ word. u64_in version >>= λ n. format_named word n
+format_in _ = None
+
+-- ["hog-state",1,ops,turns,units,used,globals,end,stack,frames,throws,upvalues,heap,trace], or
+-- ["hog-state",2,ops,turns,units,used,asked,globals,end,stack,frames,throws,upvalues,heap,trace]
+abbrev pub written_by : Format → List Data → Option Written
+written_by format (ops ∷ turns ∷ units ∷ used ∷ ds) = counts_in ops turns units used >>= λ n. rest_by format n ds
+written_by format _ = None
+
+abbrev pub behind_format : List Data → List Data
+behind_format (name ∷ version ∷ ds) = ds
+behind_format _ = []
+
+abbrev pub written_in_list : List Data → Option Written
+written_in_list ds = format_in ds >>= λ format. written_by format (behind_format ds)
+
+abbrev pub written_in : Data → Option Written
+written_in d = list_in d >>= written_in_list
+
+-- the elements of a machine's text in a format
+abbrev pub rest_data : Saved → List Data
+rest_data m =
+    maybe_data number_data m.globals ∷ mode_data m.state.mode ∷ list (map value_data (reverse m.state.stack))
+    ∷ list (map frame_data (reverse m.state.frames)) ∷ list (map throw_data (reverse m.state.throws))
+    ∷ list (map upvalue_data m.state.upvalues) ∷ list (map cell_data m.state.heap) ∷ list (map item_data m.state.trace) ∷ []
+
+abbrev pub counts_data : Saved → List Data
+counts_data m = number_data m.ops ∷ number_data m.state.turns ∷ number_data m.state.units ∷ number_data m.used ∷ []
+
+abbrev pub asked_data : Format → Saved → List Data
+asked_data First m = []
+asked_data Second m = number_data (requests_in m.state.trace) ∷ []
+
+abbrev pub number_of_format : Format → ℕ
+number_of_format First = 1
+number_of_format Second = 2
+
+abbrev pub elements_of : Format → Saved → List Data
+elements_of format m = string (codes "hog-state") ∷ number_data (number_of_format format) ∷ counts_data m ++ (asked_data format m ++ rest_data m)
+
+abbrev pub saved_data : Format → Saved → Data
+saved_data format m = list (elements_of format m)

@@ -1,0 +1,8 @@
+pub mod Saved
+pub mod Layout
+pub mod Tests
+pub mod Code
+pub mod Text
+pub mod Refusals
+pub mod Laws
+pub mod Examples

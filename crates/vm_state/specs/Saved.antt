@@ -1,0 +1,51 @@
+-- What is kept of a machine that is saved.
+use Rattle.std.specs.Prelude.{ℕ, List, Bool, true, false, count_by, Option, Some, None}
+use Rattle.hog_value.specs.declared.trace.End.{End}
+use Rattle.hog_value.specs.declared.trace.End.TheVariants as end
+use Rattle.hog_value.specs.declared.trace.TraceItem.{TraceItem}
+use Rattle.hog_meaning.specs.Meaning.{is_request}
+use Rattle.vm_frames.specs.State.{Running, Waiting, Ended, Mode, State}
+
+-- How many operations were done, how many replies were taken in, and the cell of the globals, which there is none of where
+-- the run ended in its first operation; and the state. Replies that are to come are no part of a machine.
+pub record Saved : Type 0 where
+  pub ops : ℕ
+  pub used : ℕ
+  pub globals : Option ℕ
+  pub state : State
+
+-- The second format has the number of requests beside the number of replies; it is the one in which machines are saved.
+-- The first is older, and is still read.
+pub data Format : Type 0 where
+  First : Format
+  Second : Format
+
+-- what was read of a text: its format, the number of requests that it says, and the machine
+pub record Written : Type 0 where
+  pub format : Format
+  pub asked : ℕ
+  pub saved : Saved
+
+abbrev pub requests_in : List TraceItem → ℕ
+requests_in trace = count_by is_request trace
+
+abbrev pub ended_with : (End → Bool) → Mode → Bool
+ended_with f Running = false
+ended_with f Waiting = false
+ended_with f (Ended e) = f e
+
+abbrev pub is_memory : End → Bool
+is_memory (end.Done t) = false
+is_memory (end.Threw t) = false
+is_memory end.TurnsSpent = false
+is_memory end.MemorySpent = true
+is_memory end.TooDeep = false
+is_memory end.TooManyFetches = false
+
+abbrev pub is_fetches : End → Bool
+is_fetches (end.Done t) = false
+is_fetches (end.Threw t) = false
+is_fetches end.TurnsSpent = false
+is_fetches end.MemorySpent = false
+is_fetches end.TooDeep = false
+is_fetches end.TooManyFetches = true
