@@ -40,8 +40,8 @@ cell_fine (Array vs) h = fine_list 3 (word_fine 3 (codes "a") & fine_more 2 3 (o
 cell_fine (Dict ps) h = fine_list 3 (word_fine 3 (codes "d") & fine_map 2 pair_data PairFits pair_fine ps h.0 & done)
 cell_fine (Fun f) h =
     fine_list 3 (
-      word_fine 3 (codes "f") & small_fine 3 f.place h.0
-          & fine_more 1 3 (omega arith) (fine_map 0 number_data (λ n. n < 2 ^ 32) (small_fine 0) f.captured h.1) & done
+    word_fine 3 (codes "f") & small_fine 3 f.place h.0
+    & fine_more 1 3 (omega arith) (fine_map 0 number_data (λ n. n < 2 ^ 32) (small_fine 0) f.captured h.1) & done
     )
 
 pub maybe_fine : (k : ℕ) (o : Option ℕ) → IfSome o (λ n. n < 2 ^ 32) → Fine k (maybe_data number_data o)

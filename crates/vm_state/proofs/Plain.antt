@@ -43,13 +43,13 @@ rest_fine m h =
 pub saved_fine : (format : Format) (m : Saved) → SavedFits m → Fine 6 (saved_data format m)
 saved_fine First m h =
     fine_list 5 (
-      word_fine 5 (codes "hog-state") & small_fine 5 1 (omega arith) & number_fine 5 m.ops h.ops & small_fine 5 m.state.turns h.turns
-          & small_fine 5 m.state.units h.units & number_fine 5 m.used h.used & rest_fine m h
+    word_fine 5 (codes "hog-state") & small_fine 5 1 (omega arith) & number_fine 5 m.ops h.ops & small_fine 5 m.state.turns h.turns
+    & small_fine 5 m.state.units h.units & number_fine 5 m.used h.used & rest_fine m h
     )
 saved_fine Second m h =
     fine_list 5 (
-      word_fine 5 (codes "hog-state") & small_fine 5 2 (omega arith) & number_fine 5 m.ops h.ops & small_fine 5 m.state.turns h.turns
-          & small_fine 5 m.state.units h.units & number_fine 5 m.used h.used & small_fine 5 (requests_in m.state.trace) h.asked & rest_fine m h
+    word_fine 5 (codes "hog-state") & small_fine 5 2 (omega arith) & number_fine 5 m.ops h.ops & small_fine 5 m.state.turns h.turns
+    & small_fine 5 m.state.units h.units & number_fine 5 m.used h.used & small_fine 5 (requests_in m.state.trace) h.asked & rest_fine m h
     )
 
 pub text_back : (format : Format) (m : Saved) → SavedFits m → read (text_in format m) ≡ Some (saved_data format m)
