@@ -34,7 +34,7 @@ impl Model for Draft {
     ghost invariant = { λ d. d.elements ≡ span (ops_of d.ops.items) };
 }
 
-// How many elements that are together; 2^32 of them have no place in memory.
+// How many elements that are together. As many as 2^32 are answered as want of memory; a program that is read has far fewer.
 fn together(elements: u32, more: usize) -> Result<u32, AllocError>
     ensures { IfOk result (λ n. n ≡ elements + more) }
 {

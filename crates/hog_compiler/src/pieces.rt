@@ -68,7 +68,7 @@ pub fn is_left_first(op: BinaryOp) -> bool
     matches!(op, BinaryOp::Or | BinaryOp::And)
 }
 
-/// A count as operations have it: 2^32 of anything have no place in memory.
+/// A count as operations have it. As many as 2^32 are answered as want of memory.
 pub fn counted(len: usize) -> Result<u32, AllocError>
     ensures { IfOk result (λ n. n ≡ len) }
 {
