@@ -6,4 +6,6 @@ mod Landing
 mod Tops
 mod Taking
 mod Gathered
+mod Answered
+mod Paths
 mod JumpLemmas

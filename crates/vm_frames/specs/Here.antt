@@ -7,12 +7,18 @@ use Rattle.hog_value.specs.declared.value.SetStop.{SetStop}
 use Rattle.hog_value.specs.declared.value.SetStop.TheVariants as stop
 use Rattle.hog_value.specs.Values.{Val, NamesBelow}
 use Rattle.hog_value.specs.Cells.{IsCovered}
-use Rattle.hog_ops.specs.Plain.{Op}
+use Rattle.hog_value.specs.declared.trace.TraceItem.TheVariants.{Printed, Asked}
+use Rattle.hog_value.specs.declared.value.Value.TheVariants.{Null}
+use Rattle.hog_library.specs.declared.call.NativeAnswer.{NativeAnswer}
+use Rattle.hog_library.specs.declared.call.NativeAnswer.TheVariants as answer
+use Rattle.hog_library.specs.declared.call.CallStop.{CallStop}
+use Rattle.hog_library.specs.declared.call.CallStop.TheVariants as call
+use Rattle.hog_ops.specs.Plain.{Op, GetGlobal}
 use Rattle.hog_meaning.specs.World.{Fixed}
-use Rattle.vm_frames.specs.State.{Slot, Upvalue, Opened, Closed, Frame, State}
-use Rattle.vm_frames.specs.Stack.{floor_of}
+use Rattle.vm_frames.specs.State.{Slot, Upvalue, Opened, Closed, Frame, Waiting, State}
+use Rattle.vm_frames.specs.Stack.{keep, floor_of}
 use Rattle.vm_frames.specs.Throws.{ends, throw_kind}
-use Rattle.vm_frames.specs.Step.{Here, here_at, act}
+use Rattle.vm_frames.specs.Step.{Here, here_at, on_with, on_and_push, said, act}
 
 -- the first of a list, and the others
 abbrev pub first_of : {A : Type 0} → List A → Option A
@@ -57,3 +63,23 @@ IsStopped stop.OutOfMemory before after = ⊥
 abbrev pub set_stop : Stop → SetStop
 set_stop made.UnitsSpent = stop.UnitsSpent
 set_stop made.OutOfMemory = stop.OutOfMemory
+
+-- the answer of a native is taken, with so much of the stack left
+abbrev pub answer_taken : ℕ → ℕ → NativeAnswer → State → State
+answer_taken behind rest (answer.Gives v) s = on_and_push (here_of behind s) (keep rest s.stack) v s
+answer_taken behind rest (answer.Prints text) s = on_and_push (here_of behind s) (keep rest s.stack) Null (said (Printed text) s)
+answer_taken behind rest (answer.Throws kind) s = throw_kind kind s
+answer_taken behind rest (answer.Asks request) s =
+    let asked : State = on_with (here_of behind s) (keep rest s.stack) (said (Asked request) s) in
+    record asked { mode = Waiting }
+
+-- A native's call has stopped. Want of memory ends no run.
+abbrev pub IsCallStopped : CallStop → State → State → Type 0
+IsCallStopped call.TurnsSpent before after = after ≡ ends end.TurnsSpent before
+IsCallStopped call.UnitsSpent before after = after ≡ ends end.MemorySpent before
+IsCallStopped call.OutOfMemory before after = ⊥
+
+-- GET_GLOBAL was done, where the cell of the globals has a number
+abbrev pub ReadsGlobal : ℕ → ℕ → ℕ → State → State → Type 0
+ReadsGlobal globals n behind before after =
+    (fixed : Fixed) (code : List Slot) → fixed.globals ≡ globals → after ≡ act fixed code (GetGlobal n) (here_of behind before) before

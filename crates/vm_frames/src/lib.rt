@@ -8,6 +8,7 @@
 mod frames;
 mod functions;
 mod gathers;
+mod globals;
 mod jumps;
 mod machine;
 mod natives;

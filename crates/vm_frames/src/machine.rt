@@ -90,6 +90,7 @@ impl Machine {
     /// So many operands, the topmost first, and how many values stand under them.
     pub(crate) fn popped(&self, alloc: Global, n: u64) -> Result<(Vec<Value>, u32), AllocError>
         ensures is { IfOk result (λ r. taken (floor_of (innermost self.now.frames) self.now) n self.now.stack ≡ (r.0.items, keep r.1 self.now.stack)) }
+        ensures count { IfOk result (λ r. length r.0.items ≡ n) }
         ensures within { IfOk result (λ r. r.1 ≤ length self.now.stack) }
         ensures names { IfOk result (λ r. All (NamesBelow (length self.now.heap)) r.0.items) }
     {
@@ -100,6 +101,7 @@ impl Machine {
     /// So many operands, the topmost last, and how many values stand under them.
     pub(crate) fn operands(&self, alloc: Global, n: u64) -> Result<(Vec<Value>, u32), AllocError>
         ensures is { IfOk result (λ r. taken (floor_of (innermost self.now.frames) self.now) n self.now.stack ≡ (reverse r.0.items, keep r.1 self.now.stack)) }
+        ensures count { IfOk result (λ r. length r.0.items ≡ n) }
         ensures within { IfOk result (λ r. r.1 ≤ length self.now.stack) }
         ensures names { IfOk result (λ r. All (NamesBelow (length self.now.heap)) r.0.items) }
     {

@@ -104,6 +104,7 @@ impl Stack {
         n: u64,
     ) -> Result<(Vec<Value>, u32), AllocError>
         ensures is { IfOk result (λ r. taken floor n self.now ≡ (r.0.items, keep r.1 self.now)) }
+        ensures count { IfOk result (λ r. length r.0.items ≡ n) }
         ensures within { IfOk result (λ r. r.1 ≤ length self.now) }
         ensures names { (m : ℕ) → All (NamesBelow m) self.now → IfOk result (λ r. All (NamesBelow m) r.0.items) }
     {

@@ -1,4 +1,4 @@
-use Rattle.std.proofs.Common.{◌≡◌, ◌-◌, ◌+◌, [], List, arith, ap, sym, subst, ◌∙◌, All}
+use Rattle.std.proofs.Common.{◌≡◌, ◌-◌, ◌+◌, ◌∷◌, [], List, length, length-append, arith, ap, sym, subst, ◌∙◌, All}
 use Rattle.std.proofs.lemmas.List.Elements.{All-push, All-nil}
 use Rattle.hog_value.specs.Values.{NamesBelow}
 use Rattle.vm_frames.proofs.Taking.{behind, behind-first, behind-next, behind-last}
@@ -12,6 +12,7 @@ loop-init c =
       so_far = behind-first c.args.floor ys c.args.n c.len-rest.result c.len-rest.ensures
           ∙ ap (λ vs. behind c.args.floor ys c.args.n c.len-rest.result vs) (sym c.new-values.ensures.items)
           ∙ ap (λ k. behind c.args.floor ys k c.len-rest.result c.new-values.result.items) (sym none);
+      count = ap length c.new-values.ensures.items;
       within = omega (arith, c.len-rest.ensures);
       names = λ m all. subst (All (NamesBelow m)) (sym c.new-values.ensures.items) (All-nil _);
     }
@@ -25,6 +26,7 @@ loop-preserved c =
       so_far = c.loop.invariant.so_far
           ∙ behind-next c.args.floor ys c.args.n c.loop.counter c.loop.rest c.top-v.result.1 c.top-v.result.0 c.loop.values.items c.loop-test.true e.is
           ∙ ap (λ vs. behind c.args.floor ys (c.args.n - (c.loop.counter + 1)) c.top-v.result.1 vs) (sym items);
+      count = omega (arith, ap length items, length-append c.loop.values.items (c.top-v.result.0 ∷ []), c.loop.invariant.count);
       within = omega (arith, e.within, c.loop.invariant.within);
       names = λ m all. subst (All (NamesBelow m)) (sym items) (All-push (NamesBelow m) c.loop.values.items c.top-v.result.0 (c.loop.invariant.names m all) (e.names m all));
     }
@@ -34,3 +36,6 @@ returns-clause-is c = c.loop.invariant.so_far ∙ behind-last c.args.floor c.arg
 
 pub returns-clause-names : goal.returns-clause-names
 returns-clause-names c = λ m all. c.loop.invariant.names m all
+
+pub returns-clause-count : goal.returns-clause-count
+returns-clause-count c = omega (arith, c.loop.invariant.count, c.loop-test.false, c.loop.auto.counter-end)
