@@ -16,3 +16,7 @@ returns-in-Replay-clause-refused_line g c one xs told =
 pub returns-in-Replay-clause-refused : goal.returns-in-Replay-clause-refused
 returns-in-Replay-clause-refused g c calm xs told cause why =
     c.replay.ensures.refused calm xs told cause (subst (λ (x : Command). Refuses x xs cause) c.in-Replay.is why)
+
+pub returns-in-Source-clause-refused : goal.returns-in-Source-clause-refused
+returns-in-Source-clause-refused g c calm xs told cause why =
+    c.run_source.ensures.refused calm xs told cause (subst (λ (x : Command). Refuses x xs cause) c.in-Source.is why)
