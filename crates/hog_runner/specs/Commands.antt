@@ -10,16 +10,26 @@ use Rattle.bytecode_json.specs.Text.{code_text}
 use Rattle.hog_json.specs.Lines.{ended}
 use Rattle.hogvm.specs.Meaning.{meaning}
 use Rattle.hogvm.specs.Sums.{IsSums}
+use Rattle.cyclotron_jobs.specs.declared.row.Row.{Row}
+use Rattle.cyclotron_jobs.specs.declared.entry.Entry.{Entry}
+use Rattle.script_reader.specs.Script.{IsNoScript, IsScript}
+use Rattle.script_reader.specs.declared.step.ScriptStop.{ScriptStop}
+use Rattle.script_reader.specs.declared.step.Step.{Step}
+use Rattle.script_steps.specs.Plays.{Plays, PlaysPart}
 use Rattle.hog_runner.specs.declared.words.Command.{Command}
-use Rattle.hog_runner.specs.declared.words.Command.TheVariants.{Eval, Fmt, Compile}
+use Rattle.hog_runner.specs.declared.words.Command.TheVariants.{Source, Replay}
+use Rattle.hog_runner.specs.declared.words.SourceCommand.{SourceCommand}
+use Rattle.hog_runner.specs.declared.words.SourceCommand.TheVariants.{Eval, Fmt, Compile}
 use Rattle.line_writer.specs.Lines.{output_of}
-use Rattle.hog_runner.specs.Causes.{cause_of}
+use Rattle.hog_runner.specs.Causes.{cause_of, script_cause}
 
 -- the command of a name
 abbrev pub named : List ℕ → Option Command
 named word =
-    if bytes_eq word (codes "eval") then Some Eval
-    else (if bytes_eq word (codes "fmt") then Some Fmt else (if bytes_eq word (codes "compile") then Some Compile else None))
+    if bytes_eq word (codes "eval") then Some (Source Eval) else (
+    if bytes_eq word (codes "fmt") then Some (Source Fmt) else (
+    if bytes_eq word (codes "compile") then Some (Source Compile) else (
+    if bytes_eq word (codes "replay") then Some Replay else None)))
 
 -- the command that a list of words asks for
 abbrev pub command_of : List (List ℕ) → Option Command
@@ -31,43 +41,98 @@ command_of (word ∷ more ∷ words) = None
 abbrev pub most_bytes : ℕ
 most_bytes = 16777216
 
+-- ---- sources
+
 -- The program that a command reads: for running and compiling it, the whole of it, with what it mentions of the prelude, where its
 -- names are without fault; for printing, its tree.
-abbrev pub Reads : Command → List ℕ → Stms → Type 0
+abbrev pub Reads : SourceCommand → List ℕ → Stms → Type 0
 Reads Eval text tree = IsBuilt text tree
 Reads Fmt text tree = IsProgram text tree
 Reads Compile text tree = IsBuilt text tree
 
 -- why there is no such program
-abbrev pub Rejects : Command → List ℕ → BuildStop → Type 0
+abbrev pub Rejects : SourceCommand → List ℕ → BuildStop → Type 0
 Rejects Eval text stop = IsUnbuilt text stop
 Rejects Fmt text stop = IsNone text stop
 Rejects Compile text stop = IsUnbuilt text stop
 
 -- What a command writes for a program with this tree: the lines of its meaning, the printed tree, or the line of its
 -- bytecode. Only programs of sums are run so far.
-abbrev pub Gives : Command → Stms → List ℕ → Type 0
+abbrev pub Gives : SourceCommand → Stms → List ℕ → Type 0
 Gives Eval tree out = IsSums tree × (out ≡ output_of (meaning tree))
 Gives Fmt tree out = out ≡ printed tree
 Gives Compile tree out = out ≡ ended (code_text (code_of tree))
 
 -- Why it takes no program with this tree, as the line of the refusal says it.
-abbrev pub Lacks : Command → Stms → List ℕ → Type 0
+abbrev pub Lacks : SourceCommand → Stms → List ℕ → Type 0
 Lacks Eval tree cause = ¬ (IsSums tree) × (cause ≡ codes "not built yet")
 Lacks Fmt tree cause = ⊥
 Lacks Compile tree cause = ⊥
 
--- what a command writes for its input
-pub record Outputs (command : Command) (text out : List ℕ) : Type 0 where
+-- what a command writes for a source
+pub record SourceOutputs (command : SourceCommand) (text out : List ℕ) : Type 0 where
   pub tree : Stms
   pub program : Reads command text tree
   pub gives : Gives command tree out
 
--- Why a command refuses its input, as the line of the refusal says it.
-pub data Refuses (command : Command) (text cause : List ℕ) : Type 0 where
+-- Why a command refuses a source, as the line of the refusal says it.
+pub data SourceRefuses (command : SourceCommand) (text cause : List ℕ) : Type 0 where
   -- there is too much of it
-  TooLarge : most_bytes < length text → cause ≡ codes "too large" → Refuses command text cause
+  TooLarge : most_bytes < length text → cause ≡ codes "too large" → SourceRefuses command text cause
   -- it is no program
-  NoProgram : length text ≤ most_bytes → (stop : BuildStop) → Rejects command text stop → cause ≡ cause_of stop → Refuses command text cause
+  NoProgram : length text ≤ most_bytes → (stop : BuildStop) → Rejects command text stop → cause ≡ cause_of stop → SourceRefuses command text cause
   -- it is a program that the command doesn't take
-  NotTaken : (tree : Stms) → Reads command text tree → Lacks command tree cause → Refuses command text cause
+  NotTaken : (tree : Stms) → Reads command text tree → Lacks command tree cause → SourceRefuses command text cause
+
+-- ---- scripts
+
+-- the text is a script of these steps, and not too long
+pub record ScriptOf (text : List ℕ) (steps : List Step) : Type 0 where
+  pub small : length text ≤ most_bytes
+  pub script : IsScript text steps
+
+-- A play of the script on an empty queue has these lines. Its steps are the fold of specs/Play.antt in script_steps.
+pub record ScriptOutputs (text out : List ℕ) : Type 0 where
+  pub steps : List Step
+  pub script : ScriptOf text steps
+  pub before : ℕ
+  pub after : ℕ
+  pub rows : List Row
+  pub history : List Entry
+  pub plays : Plays before after steps rows history out
+
+-- the lines of the first steps of a play, or all its lines
+pub record ScriptPart (text out : List ℕ) : Type 0 where
+  pub steps : List Step
+  pub script : ScriptOf text steps
+  pub plays : PlaysPart steps out
+
+-- why a script is refused
+pub data ScriptRefuses (text cause : List ℕ) : Type 0 where
+  -- there is too much of it
+  TooMuch : most_bytes < length text → cause ≡ codes "too large" → ScriptRefuses text cause
+  -- it is no script
+  NoScript : length text ≤ most_bytes → (stop : ScriptStop) → IsNoScript text stop → cause ≡ script_cause stop → ScriptRefuses text cause
+
+-- ---- all commands
+
+-- what a command writes for its input
+abbrev pub Outputs : Command → List ℕ → List ℕ → Type 0
+Outputs (Source command) text out = SourceOutputs command text out
+Outputs Replay text out = ScriptOutputs text out
+
+-- What is there of it where a write fails or memory is wanted, before the prefix of it that was written is taken: of a
+-- source the whole output, of a script the lines of the steps that were played.
+abbrev pub OutputsPart : Command → List ℕ → List ℕ → Type 0
+OutputsPart (Source command) text out = SourceOutputs command text out
+OutputsPart Replay text out = ScriptPart text out
+
+-- which inputs a command takes
+abbrev pub Accepts : Command → List ℕ → Type 0
+Accepts (Source command) text = (out : List ℕ) × SourceOutputs command text out
+Accepts Replay text = (steps : List Step) × ScriptOf text steps
+
+-- why a command refuses its input, as the line of the refusal says it
+abbrev pub Refuses : Command → List ℕ → List ℕ → Type 0
+Refuses (Source command) text cause = SourceRefuses command text cause
+Refuses Replay text cause = ScriptRefuses text cause

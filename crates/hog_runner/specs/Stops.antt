@@ -3,6 +3,10 @@ use Rattle.hog_program.specs.declared.stop.BuildStop.{BuildStop}
 use Rattle.hog_program.specs.declared.stop.BuildStop.TheVariants as build
 use Rattle.hog_runner.specs.declared.program.ProgramStop.{ProgramStop}
 use Rattle.hog_runner.specs.declared.program.ProgramStop.TheVariants as stop
+use Rattle.script_reader.specs.declared.step.ScriptStop.{ScriptStop}
+use Rattle.script_reader.specs.declared.step.ScriptStop.TheVariants as script
+use Rattle.hog_runner.specs.declared.script.NoScript.{NoScript}
+use Rattle.hog_runner.specs.declared.script.NoScript.TheVariants as none
 use Rattle.hog_runner.specs.declared.input.InputStop.{InputStop}
 use Rattle.hog_runner.specs.declared.input.InputStop.TheVariants as input
 
@@ -15,3 +19,13 @@ of_input input.OutOfMemory = stop.OutOfMemory
 abbrev pub of_build : BuildStop → ProgramStop
 of_build build.OutOfMemory = stop.OutOfMemory
 of_build s = stop.Refused s
+
+-- why there is no script, likewise
+abbrev pub script_of_input : InputStop → NoScript
+script_of_input input.TooLarge = none.TooLarge
+script_of_input input.Failed = none.ReadFailed
+script_of_input input.OutOfMemory = none.OutOfMemory
+
+abbrev pub of_script : ScriptStop → NoScript
+of_script script.OutOfMemory = none.OutOfMemory
+of_script s = none.Refused s

@@ -1,6 +1,6 @@
 -- What the program answers for its words and its input: a status, and what is written at it.
 use Rattle.std.specs.Prelude.{◌≡◌, ℕ, List, ◌++◌, codes, Some, None}
-use Rattle.hog_runner.specs.Commands.{command_of, Outputs, Refuses}
+use Rattle.hog_runner.specs.Commands.{command_of, Outputs, OutputsPart, Refuses}
 use Rattle.hog_json.specs.Lines.{ended}
 use Rattle.hog_runner.specs.declared.words.Command.{Command}
 
@@ -19,3 +19,9 @@ pub data Writes (words : List (List ℕ)) (text : List ℕ) (status : ℕ) (out 
   Done :
       (command : Command) → command_of words ≡ Some command → Outputs command text out →
       status ≡ 0 → Writes words text status out
+
+-- what there is to write where a write fails, or memory is wanted
+pub record WritesPart (words : List (List ℕ)) (text : List ℕ) (out : List ℕ) : Type 0 where
+  pub command : Command
+  pub asked : command_of words ≡ Some command
+  pub part : OutputsPart command text out

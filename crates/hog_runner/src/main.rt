@@ -1,19 +1,21 @@
 //! The program `hog_runner`: reads standard input, and writes to standard output what its words ask for.
-//! Stands on hog_outside, line_writer, hog_program, hog_printer, hog_compiler, bytecode_json, hogvm, hog_tree and hog_value.
-//! The contract is that of `top_program`: when each status comes, and what is read and written at it,
-//! for every list of words, every input, and every fault of the source and the sink.
+//! Stands on hog_outside, line_writer, hog_program, hog_printer, hog_compiler, bytecode_json, hogvm, script_steps and those below.
+//! The contract is that of `top_still`: when each status comes, and what is read and written at it, for every list of
+//! words, every input, and every fault of the source, the sink and the keeper; and what the queue of a script keeps.
 //! specs/Writes.antt and Commands.antt say what the program answers for its words and its input.
 #![tactic(auto)]
 
 pub mod causes;
 pub mod input;
 pub mod program;
+pub mod script;
 pub mod top;
 pub mod words;
 
-use crate::top::top_program;
+use crate::top::top_still;
 use hog_outside::{Input, Output};
 use hog_value::HogText;
+use job_keeper::NoKeeper;
 use std::alloc::{AllocError, Global};
 use std::process::ExitCode;
 use std::rt::Env;
@@ -25,7 +27,8 @@ fn main(rt: HostRuntime) -> ExitCode {
     };
     let mut source = Input::new(rt.reader());
     let mut sink = Output::new(io::writer(&rt));
-    ExitCode::from(top_program(rt.alloc(), &words, &mut source, &mut sink))
+    let answer = top_still(rt.alloc(), &words, &mut source, &mut sink, NoKeeper);
+    ExitCode::from(answer.status)
 }
 
 /// The arguments behind the program's name. Where one isn't UTF-8 there are none, since no command has

@@ -9,7 +9,7 @@ ghost use Rattle.hog_runner.specs.Commands.{most_bytes, Reads, Rejects};
 ghost use Rattle.hog_runner.specs.Takes.{TakesAtMost};
 
 use crate::input::{InputStop, read_all};
-use crate::words::Command;
+use crate::words::SourceCommand;
 use hog_outside::Source;
 use hog_program::{BuildStop, read_tree, read_whole};
 use hog_tree::tree::Tree;
@@ -56,22 +56,22 @@ impl From<BuildStop> for ProgramStop {
 }
 
 /// Reads the program of a text, as the command asks for it.
-fn read_text(alloc: Global, command: Command, text: &[u8]) -> Result<Tree, BuildStop>
+fn read_text(alloc: Global, command: SourceCommand, text: &[u8]) -> Result<Tree, BuildStop>
     ensures reads { IfOk result (λ tree. Reads command text.now (tree_of tree)) }
     ensures low { IfOk result (λ tree. stms_nesting (tree_of tree) ≤ deepest) }
     ensures rejects { (stop : Stop) → result ≡ Err stop → stop ≢ BuildStop.OutOfMemory
         → Rejects command text.now stop }
 {
     match command {
-        Command::Eval | Command::Compile => read_whole(alloc, text),
-        Command::Fmt => read_tree(alloc, text),
+        SourceCommand::Eval | SourceCommand::Compile => read_whole(alloc, text),
+        SourceCommand::Fmt => read_tree(alloc, text),
     }
 }
 
 /// Reads the program that the source has, as the command asks for it.
 pub fn read_program<S: Source>(
     alloc: Global,
-    command: Command,
+    command: SourceCommand,
     source: &mut S,
 ) -> Result<Tree, ProgramStop>
     ensures program { IfOk result (λ tree. (xs : List ℕ) → S.left source.old ≡ Some xs

@@ -9,6 +9,15 @@ use std::convert::AsStr;
 /// What the program can do.
 #[derive(Clone, Copy, Debug, PartialEq, Eq)]
 pub enum Command {
+    /// Something with a Hog source.
+    Source(SourceCommand),
+    /// Plays a script on a queue.
+    Replay,
+}
+
+/// What the program can do with a Hog source.
+#[derive(Clone, Copy, Debug, PartialEq, Eq)]
+pub enum SourceCommand {
     /// Runs a program.
     Eval,
     /// Prints the tree of a program.
@@ -32,9 +41,10 @@ fn named(word: &HogText) -> Option<Command>
     ensures { result ≡ named word.now }
 {
     match word.as_str() {
-        "eval" => Some(Command::Eval),
-        "fmt" => Some(Command::Fmt),
-        "compile" => Some(Command::Compile),
+        "eval" => Some(Command::Source(SourceCommand::Eval)),
+        "fmt" => Some(Command::Source(SourceCommand::Fmt)),
+        "compile" => Some(Command::Source(SourceCommand::Compile)),
+        "replay" => Some(Command::Replay),
         _ => None,
     }
 }

@@ -22,7 +22,7 @@ use Rattle.cyclotron_jobs.specs.declared.row.Row.{Row}
 use Rattle.queue_history.specs.Rows.{after_in, IsOnCourse}
 use Rattle.cyclotron_jobs.specs.declared.input.JobInput.{JobInput}
 use Rattle.cyclotron_jobs.specs.declared.input.Reply.{Reply}
-use Rattle.script_steps.specs.Programs.{IsSumsOf}
+use Rattle.script_reader.specs.Programs.{IsSumsOf}
 use Rattle.script_steps.specs.Course.{after_mode, after_end, IsReached, IsMachineAt, IsCourse, AgreesWithMeaning}
 use Rattle.script_steps.proofs.Runs.{after_end-mode}
 

@@ -2,3 +2,4 @@ pub mod CourseLemmas
 pub mod Runs
 pub mod PlayLemmas
 pub mod Snoc
+pub mod LineLemmas

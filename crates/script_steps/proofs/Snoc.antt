@@ -1,11 +1,13 @@
 -- One step more of a play.
-use Rattle.std.proofs.Common.{◌≡◌, ℕ, ◌+◌, ◌<◌, List, [], ◌∷◌, ◌++◌, length, get_or, take, refl, sym, ap, ◌∙◌, subst, append_assoc}
-use Rattle.std.proofs.lemmas.List.{append-nil, take_more}
+use Rattle.std.proofs.Common.{◌≡◌, ℕ, ◌+◌, ◌<◌, ◌≤◌, ◌⊎◌, ◌^◌, inl, inr, List, [], ◌∷◌, ◌++◌, length, get_or, take, drop, refl, sym, ap, ◌∙◌, subst, append_assoc, arith}
+use Rattle.std.specs.Prelude.{sum_by}
+use Rattle.std.proofs.lemmas.List.{append-nil, drop_all, take_all, take_more}
+use Rattle.std.proofs.lemmas.List.Sums.{sum_by_push}
 use Rattle.hog_json.specs.Lines.{ended}
 use Rattle.script_steps.specs.declared.said.Said.{Said}
-use Rattle.script_steps.specs.declared.step.Step.{Step}
+use Rattle.script_reader.specs.declared.step.Step.{Step}
 use Rattle.script_steps.specs.Lines.{step_line, step_lines}
-use Rattle.script_steps.specs.Play.{Stage, Acts, PlaysOn}
+use Rattle.script_steps.specs.Play.{Stage, Acts, PlaysOn, RoseBy, faults_in}
 use Rattle.script_steps.specs.Plays.{PlaysPart, Some_steps, empty_stage}
 
 pub PlaysOn-push : (steps : List Step) (s : Step) (first old new : Stage) (saids : List Said) (said : Said)
@@ -43,3 +45,27 @@ step_lines-more steps i s first old saids said within here played =
 pub part_none : (steps : List Step) → PlaysPart steps []
 part_none [] = Some_steps 0 [] empty_stage refl refl
 part_none (s ∷ steps) = Some_steps 0 [] empty_stage refl refl
+
+-- ---- the keeper's faults
+
+pub rose_more : (n m a b c : ℕ) → RoseBy n a b → RoseBy m b c → RoseBy (n + m) a c
+rose_more n m a b c (inl p) (inl q) = inl (omega (arith, p, q))
+rose_more n m a b c (inl p) (inr q) = inr q
+rose_more n m a b c (inr p) (inl q) = inr (omega (arith, p, q))
+rose_more n m a b c (inr p) (inr q) = inr q
+
+pub faults_push : (saids : List Said) (said : Said) → sum_by faults_in (saids ++ said ∷ []) ≡ sum_by faults_in saids + faults_in said
+faults_push saids said = sum_by_push faults_in saids said
+
+pub rose_push : (saids : List Said) (said : Said) (a b c : ℕ) → RoseBy (sum_by faults_in saids) a b → RoseBy (faults_in said) b c → RoseBy (sum_by faults_in (saids ++ said ∷ [])) a c
+rose_push saids said a b c p q =
+    subst (λ (n : ℕ). RoseBy n a c) (sym (faults_push saids said)) (rose_more (sum_by faults_in saids) (faults_in said) a b c p q)
+
+-- no step was played yet, and no fault was said
+pub rose_begin : (a : ℕ) → RoseBy (sum_by faults_in []) a a
+rose_begin a = inl (omega arith)
+
+-- hands that were written back whole
+pub written : {A : Type 0} (len : ℕ) (xs items : List A) → length xs ≡ length items → len ≡ length items → take len (xs ++ drop (length xs) items) ≡ xs
+written len xs items same long =
+    ap (take len) (ap (λ rest. xs ++ rest) (drop_all (length xs) items (omega (arith, same))) ∙ append-nil xs) ∙ take_all len xs (omega (arith, same, long))

@@ -5,7 +5,7 @@ use Rattle.cyclotron_jobs.specs.declared.entry.Entry.{Entry}
 use Rattle.queue_history.specs.Facts.{facts_of}
 use Rattle.queue_history.specs.Legal.{IsLegal}
 use Rattle.queue_history.specs.Rows.{RowIs, IsOnCourse, inputs_of}
-use Rattle.script_steps.specs.Programs.{IsInput, AllowsReply}
+use Rattle.script_reader.specs.Programs.{IsInput, AllowsReply}
 use Rattle.script_steps.specs.Course.{IsCourse, AgreesWithMeaning}
 
 -- The history is legal, each row is the row of its job, each job is on course, and each row agrees with the meaning of

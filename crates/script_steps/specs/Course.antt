@@ -14,7 +14,7 @@ use Rattle.cyclotron_jobs.specs.declared.row.JobState.TheVariants.{Completed}
 use Rattle.cyclotron_jobs.specs.declared.row.QueueName.TheVariants as queue
 use Rattle.cyclotron_jobs.specs.declared.row.Row.{Row}
 use Rattle.cyclotron_jobs.specs.Leases.{LeaseOf, AdvanceOf}
-use Rattle.script_steps.specs.Programs.{IsSumsOf}
+use Rattle.script_reader.specs.Programs.{IsSumsOf}
 
 -- what comes next: a machine that runs goes on, and one that has ended is finished
 abbrev pub after_mode : machine.Mode → After

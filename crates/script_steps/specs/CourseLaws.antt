@@ -9,7 +9,7 @@ use Rattle.cyclotron_jobs.specs.declared.input.Reply.{Reply}
 use Rattle.cyclotron_jobs.specs.declared.row.After.{After}
 use Rattle.cyclotron_jobs.specs.declared.row.After.TheVariants.{Hog, Fetch, Finished}
 use Rattle.cyclotron_jobs.specs.Course.{shows_nothing}
-use Rattle.script_steps.specs.Programs.{IsInput, AllowsReply}
+use Rattle.script_reader.specs.Programs.{IsInput, AllowsReply}
 use Rattle.script_steps.specs.Course.{IsCourse, after_mode}
 
 pub begins : (input : JobInput) → IsInput input → IsCourse input [] 0 [] shows_nothing Hog

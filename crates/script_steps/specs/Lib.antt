@@ -1,10 +1,6 @@
-pub mod Programs
 pub mod Course
 pub mod CourseLaws
 pub mod Book
-pub mod Elements
-pub mod Steps
-pub mod Script
 pub mod Play
 pub mod Lines
 pub mod Plays

@@ -16,8 +16,8 @@ use Rattle.cyclotron_jobs.specs.declared.refused.LeaseStop.{LeaseStop}
 use Rattle.cyclotron_jobs.specs.declared.refused.LeaseStop.TheVariants as stop
 use Rattle.script_steps.specs.declared.said.Said.{Said}
 use Rattle.script_steps.specs.declared.said.Said.TheVariants.{Job, Full, Taken, Busy, Nothing, Idle, Fine, Sliced, Asks, Ended, Poisoned, Refused, Keeper}
-use Rattle.script_steps.specs.declared.step.Step.{Step}
-use Rattle.script_steps.specs.declared.step.Step.TheVariants as step
+use Rattle.script_reader.specs.declared.step.Step.{Step}
+use Rattle.script_reader.specs.declared.step.Step.TheVariants as step
 
 -- the word of a step
 abbrev pub word_of : Step → List ℕ

@@ -25,8 +25,8 @@ use Rattle.script_steps.specs.Course.{IsWork}
 use Rattle.script_steps.specs.declared.said.Held.{Held}
 use Rattle.script_steps.specs.declared.said.Said.{Said}
 use Rattle.script_steps.specs.declared.said.Said.TheVariants.{Job, Full, Taken, Busy, Nothing, Idle, Fine, Sliced, Asks, Ended, Poisoned, Refused, Keeper}
-use Rattle.script_steps.specs.declared.step.Step.{Step}
-use Rattle.script_steps.specs.declared.step.Step.TheVariants as step
+use Rattle.script_reader.specs.declared.step.Step.{Step}
+use Rattle.script_reader.specs.declared.step.Step.TheVariants as step
 
 -- what a step finds and leaves: the rows, the history, and what its worker holds
 pub record Place : Type 0 where
@@ -34,8 +34,11 @@ pub record Place : Type 0 where
   pub history : List Entry
   pub hand : Option Held
 
+abbrev pub place_at : List Row → List Entry → Option Held → Place
+place_at rows history hand = record { rows = rows; history = history; hand = hand }
+
 abbrev pub place_of : {K : Type 0} → QueueOf K → Option Held → Place
-place_of queue hand = record { rows = queue.rows; history = queue.history; hand = hand }
+place_of queue hand = place_at queue.rows queue.history hand
 
 -- nothing changed
 pub record Stays (old new : Place) : Type 0 where
@@ -225,31 +228,52 @@ abbrev pub at_hand : Stage → Option Held → Place
 at_hand stage hand = record { rows = stage.rows; history = stage.history; hand = hand }
 
 -- a step of one worker: the others hold what they held
-pub record ByWorker (acts : Place → Said → Place → Type 0) (worker : ℕ) (old : Stage) (said : Said) (new : Stage) : Type 0 where
+pub record ByWorker (moves : Place → Said → Place → Type 0) (worker : ℕ) (old : Stage) (said : Said) (new : Stage) : Type 0 where
   pub hand : Option Held
   pub there : slice_get old.hands worker ≡ Some hand
   pub left : Option Held
-  pub act : acts (at_hand old hand) said (at_hand new left)
+  pub act : moves (at_hand old hand) said (at_hand new left)
   pub hands : new.hands ≡ slice_set old.hands worker left
 
 -- a step of no worker
-pub record ByNone (acts : Place → Said → Place → Type 0) (old : Stage) (said : Said) (new : Stage) : Type 0 where
-  pub act : acts (at_hand old None) said (at_hand new None)
+pub record ByNone (moves : Place → Said → Place → Type 0) (old : Stage) (said : Said) (new : Stage) : Type 0 where
+  pub act : moves (at_hand old None) said (at_hand new None)
   pub hands : new.hands ≡ old.hands
 
--- what a step says and does. In place of a step that would append an entry the keeper's fault may be said, and all
--- stays as it was.
+-- the worker of a step, where it has one
+abbrev pub worker_of : Step → Option ℕ
+worker_of (step.Enqueue input rank at) = None
+worker_of (step.Take worker on now) = Some worker
+worker_of (step.Beat worker now) = Some worker
+worker_of (step.Work worker slice) = Some worker
+worker_of (step.Answer worker reply) = Some worker
+worker_of (step.Flush worker) = Some worker
+worker_of (step.Sweep now) = None
+worker_of (step.Lose worker) = Some worker
+worker_of (step.Forge worker job draw) = Some worker
+worker_of (step.Back worker at) = Some worker
+
+-- What a step says and does to rows, history and its worker's hand. In place of a step that would append an entry the
+-- keeper's fault may be said, and all stays as it was.
+abbrev pub Moves : Step → Place → Said → Place → Type 0
+Moves (step.Enqueue input rank at) = Enqueues input rank at
+Moves (step.Take worker on now) = Takes on now
+Moves (step.Beat worker now) = Beats now
+Moves (step.Work worker slice) = Works slice
+Moves (step.Answer worker reply) = Replies
+Moves (step.Flush worker) = Flushes
+Moves (step.Sweep now) = Sweeps now
+Moves (step.Lose worker) = Loses
+Moves (step.Forge worker job draw) = Forges (record { job = job; draw = draw })
+Moves (step.Back worker at) = Backs at
+
+abbrev pub ActsFor : Option ℕ → (Place → Said → Place → Type 0) → Stage → Said → Stage → Type 0
+ActsFor None moves = ByNone moves
+ActsFor (Some worker) moves = ByWorker moves worker
+
+-- what a step says and does
 abbrev pub Acts : Step → Stage → Said → Stage → Type 0
-Acts (step.Enqueue input rank at) = ByNone (Enqueues input rank at)
-Acts (step.Take worker on now) = ByWorker (Takes on now) worker
-Acts (step.Beat worker now) = ByWorker (Beats now) worker
-Acts (step.Work worker slice) = ByWorker (Works slice) worker
-Acts (step.Answer worker reply) = ByWorker Replies worker
-Acts (step.Flush worker) = ByWorker Flushes worker
-Acts (step.Sweep now) = ByNone (Sweeps now)
-Acts (step.Lose worker) = ByWorker Loses worker
-Acts (step.Forge worker job draw) = ByWorker (Forges (record { job = job; draw = draw })) worker
-Acts (step.Back worker at) = ByWorker (Backs at) worker
+Acts s = ActsFor (worker_of s) (Moves s)
 
 -- steps in order, each with what it says
 abbrev pub PlaysOn : List Step → Stage → List Said → Stage → Type 0

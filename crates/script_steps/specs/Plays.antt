@@ -6,7 +6,7 @@ use Rattle.cyclotron_jobs.specs.declared.entry.Entry.{Entry}
 use Rattle.script_steps.specs.Lines.{step_lines, closing_lines}
 use Rattle.script_steps.specs.Play.{Stage, PlaysOn, RoseBy, faults_in}
 use Rattle.script_steps.specs.declared.said.Said.{Said}
-use Rattle.script_steps.specs.declared.step.Step.{Step}
+use Rattle.script_reader.specs.declared.step.Step.{Step}
 
 -- no row, no entry, and sixteen empty hands
 abbrev pub empty_stage : Stage

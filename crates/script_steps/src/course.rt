@@ -17,7 +17,7 @@ use job_keeper::keeper::Keeper;
 pub struct HogCourse;
 
 impl Course for HogCourse {
-    ghost use Rattle.script_steps.specs.Programs.{IsInput, AllowsReply};
+    ghost use Rattle.script_reader.specs.Programs.{IsInput, AllowsReply};
     ghost use Rattle.script_steps.specs.Course.{IsCourse};
     ghost use Rattle.script_steps.specs.CourseLaws.{begins, goes_on};
 

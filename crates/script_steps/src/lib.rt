@@ -1,16 +1,20 @@
-//! The course of jobs whose programs are sums, slices of work on their leases, and the definitions of scripts and plays.
-//! Stands on cyclotron_core and the crates below it, and on hog_program and hogvm for the programs of its jobs.
-//! Above, `work` gives the run of a slice on a lease (`IsWork` of specs/Course.antt), and `keeps_the_meaning` says of
-//! every queue over `HogCourse` that its history is legal and its rows agree with the meanings of their programs
-//! (`KeepsTheMeaning` of specs/Book.antt); specs/Script.antt and specs/Plays.antt say what a script and its play are.
+//! Plays of scripts on a queue: the course of jobs whose programs are sums, slices of work on their leases, and steps.
+//! Stands on script_reader for scripts, on cyclotron_core and the crates below it, and on hog_program and hogvm.
+//! Above, `play` gives the queue at the end of a script and its lines (`Plays` of specs/Plays.antt); `work` gives the run
+//! of a slice on a lease (`IsWork` of specs/Course.antt); and `keeps_the_meaning` says of every queue over `HogCourse`
+//! that its history is legal and its rows agree with the meanings of their programs (`KeepsTheMeaning`).
 #![tactic(auto)]
 
 pub mod course;
+mod lines;
+pub mod player;
 pub mod said;
-pub mod step;
+mod steps;
+#[cfg(test)]
+mod tests;
 pub mod worker;
 
 pub use course::{HogCourse, keeps_the_meaning, rows_agree};
+pub use player::{Played, play};
 pub use said::{Held, Said};
-pub use step::{ScriptStop, SourceStop, Step};
 pub use worker::work;

@@ -6,7 +6,7 @@ ghost use Rattle.hog_tree.specs.View.{tree_of};
 ghost use Rattle.hogvm.specs.Code.{program_code};
 ghost use Rattle.hogvm.specs.Sums.{IsSums};
 ghost use Rattle.script_steps.specs.Course.{after_end, IsMachineAt, IsWork};
-ghost use Rattle.script_steps.specs.Programs.{IsSumsOf};
+ghost use Rattle.script_reader.specs.Programs.{IsSumsOf};
 
 use crate::course::HogCourse;
 use cyclotron_jobs::lease::{Advance, Lease};

@@ -1,5 +1,6 @@
 use super::*;
 use hog_outside::{Failed, MemSink, MemSource};
+use job_keeper::NoKeeper;
 use std::test::Fail;
 
 /// A call over streams in memory, and what comes of it.
@@ -90,6 +91,26 @@ fn answers(rt: HostRuntime) -> Result<(), Fail> {
         calm(&[], "return 1;", 2, "refused: words\n"),
         calm(&["eval", "x"], "return 1;", 2, "refused: words\n"),
         calm(&["Eval"], "return 1;", 2, "refused: words\n"),
+        calm(
+            &["replay"],
+            "[]",
+            0,
+            "entries queued 0 taken 0 beat 0 ran 0 replied 0 swept 0\n",
+        ),
+        calm(&["replay"], "[", 1, "refused: not json\n"),
+        calm(&["replay"], "{}", 1, "refused: not a script\n"),
+        calm(
+            &["replay"],
+            "[[\"sweep\",0],[\"take\",0,\"hog\"]]",
+            1,
+            "refused: step 1 is bad\n",
+        ),
+        calm(
+            &["replay"],
+            "[[\"enqueue\",\"x := 1;\",{},0,0]]",
+            1,
+            "refused: step 0: assigns unknown at 0\n",
+        ),
         // The second read is the one at the end.
         faulty("return 1;", &[1], 1000, &[], 3, ""),
         faulty("return 1;", &[2], 1000, &[], 3, ""),
@@ -105,7 +126,7 @@ fn answers(rt: HostRuntime) -> Result<(), Fail> {
         let bytes = Vec::from_slice(alloc, row.input.as_bytes())?;
         let mut source = MemSource::new(bytes, Vec::from_slice(alloc, row.failing_reads)?);
         let mut sink = MemSink::new(alloc, row.room, Vec::from_slice(alloc, row.failing_writes)?)?;
-        let status = top_program(alloc, &words, &mut source, &mut sink);
+        let status = top_still(alloc, &words, &mut source, &mut sink, NoKeeper).status;
         assert_eq!(rt; status, row.status, "of {:?}", row.input);
         assert_eq!(rt; sink.bytes(), row.written.as_bytes(), "of {:?}", row.input);
     }
@@ -117,7 +138,7 @@ fn answer(alloc: Global, word: &str, input: &[u8]) -> Result<(u8, MemSink), Fail
     let words = given(alloc, &[word])?;
     let mut source = MemSource::new(Vec::from_slice(alloc, input)?, Vec::new(alloc));
     let mut sink = MemSink::new(alloc, 1000, Vec::new(alloc))?;
-    let status = top_program(alloc, &words, &mut source, &mut sink);
+    let status = top_still(alloc, &words, &mut source, &mut sink, NoKeeper).status;
     Ok((status, sink))
 }
 
@@ -159,7 +180,10 @@ fn refuses_what_is_too_much(rt: HostRuntime) -> Result<(), Fail> {
     ] {
         let mut source = MemSource::new(vec![in alloc; b' '; length]?, Vec::new(alloc));
         let mut sink = MemSink::new(alloc, 100, Vec::new(alloc))?;
-        assert_eq!(rt; top_program(alloc, &words, &mut source, &mut sink), status);
+        assert_eq!(rt;
+            top_still(alloc, &words, &mut source, &mut sink, NoKeeper).status,
+            status
+        );
         assert_eq!(rt; sink.bytes(), written.as_bytes());
     }
     Ok(())
@@ -267,7 +291,10 @@ fn goes_on_after_a_part(rt: HostRuntime) -> Result<(), Fail> {
         let mut source = Drip(MemSource::new(bytes, Vec::new(alloc)));
         let sink = MemSink::new(alloc, 100, Vec::from_slice(alloc, failing_writes)?)?;
         let mut sink = Drip(sink);
-        assert_eq!(rt; top_program(alloc, &words, &mut source, &mut sink), status);
+        assert_eq!(rt;
+            top_still(alloc, &words, &mut source, &mut sink, NoKeeper).status,
+            status
+        );
         assert_eq!(rt; sink.0.bytes(), written.as_bytes());
     }
     Ok(())

@@ -9,7 +9,7 @@ use Rattle.hogvm.proofs.Course.{still_runs}
 use Rattle.cyclotron_jobs.specs.Leases.{LeaseOf}
 use Rattle.cyclotron_jobs.specs.declared.row.QueueName.TheVariants as queue
 use Rattle.script_steps.specs.Course.{IsSlice}
-use Rattle.script_steps.specs.Programs.{IsSumsOf}
+use Rattle.script_reader.specs.Programs.{IsSumsOf}
 use Rattle.cyclotron_jobs.specs.declared.input.JobInput.{JobInput}
 use Rattle.script_steps.proofs.CourseLemmas.{leased_at, course_of, seen_at, next_at}
 use Rattle.script_steps.proofs.Runs.{slice_of}

@@ -1,0 +1,69 @@
+//! Playing scripts on a queue.
+
+ghost use Rattle.std.specs.Prelude.{◌≡◌, ◌≤◌, ℕ, List, length, replicate, Option, None, IfOk};
+ghost use Rattle.hog_outside.specs.Faults.{Rose};
+ghost use Rattle.line_writer.specs.Added.{Adds, AddsPrefix};
+ghost use Rattle.script_steps.specs.Book.{KeepsTheMeaning};
+ghost use Rattle.script_steps.specs.Plays.{Plays, PlaysPart};
+
+use crate::course::{HogCourse, keeps_the_meaning};
+use crate::lines::{write_closing, write_step};
+use crate::said::Held;
+use crate::steps::act;
+use cyclotron_core::queue::QueueState;
+use hog_outside::Sink;
+use job_keeper::keeper::Keeper;
+use line_writer::OutputStop;
+use script_reader::Script;
+use std::alloc::{AllocError, Global};
+
+/// How many workers a play has.
+const WORKERS: usize = 16;
+
+/// The queue at the end of a play.
+#[derive(Drop)]
+pub struct Played<K: Keeper> {
+    pub jobs: QueueState<HogCourse, K>,
+}
+
+/// Hands that hold nothing.
+fn empty_hands(alloc: Global) -> Result<Vec<Option<Held>>, AllocError>
+    ensures { IfOk result (λ hands. hands.items ≡ replicate 16 None) }
+{
+    let mut hands = Vec::new(alloc);
+    for _i in 0..WORKERS {
+        hands.push(None)?;
+    }
+    Ok(hands)
+}
+
+/// Plays the steps of a script on an empty queue, and writes the line of each step as it is done, and then the lines of
+/// all jobs and the counts of entries. A keeper's fault is said in place of the step, and all goes on.
+pub fn play<K: Keeper, W: Sink>(
+    alloc: Global,
+    script: &Script,
+    keeper: K,
+    sink: &mut W,
+) -> Result<Played<K>, OutputStop>
+    ensures played { IfOk result (λ played. (out : List ℕ)
+        × Plays (K.faults keeper) (K.faults played.jobs.keeper) script.now played.jobs.rows played.jobs.history out
+        × Adds (W.taken sink.old) (W.taken sink.new) out) }
+    ensures prefix { (out : List ℕ) × PlaysPart script.now out
+        × AddsPrefix (W.taken sink.old) (W.taken sink.new) out }
+
+    // Whatever was played, the queue keeps the meaning of its jobs' programs.
+    ensures meaning { IfOk result (λ played. KeepsTheMeaning played.jobs.rows played.jobs.history) }
+    ensures failed { result ≡ Err OutputStop.Failed
+        → Rose (W.faults sink.old) (W.faults sink.new) }
+    ensures count { W.faults sink.old ≤ W.faults sink.new }
+{
+    let mut hands = empty_hands(alloc)?;
+    let mut queue = QueueState::new(alloc, keeper);
+    for step in script.steps() {
+        let said = act(alloc, &mut queue, &mut hands, step)?;
+        write_step(alloc, sink, step, said)?;
+    }
+    write_closing(alloc, sink, &queue)?;
+    keeps_the_meaning(&queue);
+    Ok(Played { jobs: queue })
+}
