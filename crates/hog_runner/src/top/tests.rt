@@ -84,6 +84,18 @@ fn answers(rt: HostRuntime) -> Result<(), Fail> {
         ),
         calm(
             &["compile"],
+            "while (true) {}",
+            0,
+            "[\"_H\",1,29,40,2,39,-5,31,38]\n",
+        ),
+        calm(
+            &["compile"],
+            "let f := x -> x * 2; return f(4);",
+            0,
+            "[\"_H\",1,52,\"lambda\",1,0,6,33,2,36,0,8,38,53,0,33,4,36,0,54,1,38,31,38]\n",
+        ),
+        calm(
+            &["compile"],
             "x := 1;",
             1,
             "refused: assigns unknown at 0\n",
