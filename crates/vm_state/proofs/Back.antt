@@ -1,17 +1,15 @@
 -- What was written of a machine is read as that machine.
-use Rattle.std.proofs.Common.{◌≡◌, ℕ, ◌<◌, ◌^◌, List, [], ◌∷◌, ◌++◌, Some, map, reverse, refl, sym, ap, ◌∙◌, subst}
+use Rattle.std.proofs.Common.{◌≡◌, List, [], ◌∷◌, Some, map, reverse, refl, sym, ap, ◌∙◌, subst}
 use Rattle.std.proofs.lemmas.List.{reverse-reverse, reverse-append}
 use Rattle.std.specs.List.{AllByRecursion}
-use Rattle.serde_json.specs.Data.{Data}
-use Rattle.hog_value.specs.declared.trace.End.{End}
 use Rattle.hog_value.specs.declared.trace.End.TheVariants as end
 use Rattle.hog_value.specs.declared.trace.TraceItem.{TraceItem}
-use Rattle.state_forms.specs.Shapes.{◌>>=◌, list, list_by, u32_in, number_data, maybe_in, maybe_data}
+use Rattle.state_forms.specs.Shapes.{◌>>=◌, list, number_data}
 use Rattle.state_forms.specs.Values.{value_in, value_data, cell_in, cell_data, ValueFits, CellFits}
 use Rattle.state_forms.specs.Shown.{item_in, item_data}
 use Rattle.state_forms.proofs.Lists.{list_in-list, list_by_back, all_push}
 use Rattle.state_forms.proofs.Back.{u32_back, value_back, cell_back}
-use Rattle.state_forms.proofs.ShownBack.{maybe_back, item_back, end_back}
+use Rattle.state_forms.proofs.ShownBack.{maybe_back, item_back}
 use Rattle.vm_frames.specs.State.{Upvalue, Opened, Closed, Frame, ThrowFrame, Running, Waiting, Ended, Mode, State}
 use Rattle.vm_state.specs.Saved.{Saved, Format, First, Second, Written, requests_in}
 use Rattle.vm_state.specs.Layout.{frame_in, frame_data, throw_in, throw_data, upvalue_in, upvalue_data, mode_in, mode_data, Counts, counts_in, Calls, calls_in, Held, held_in, rest_in, rest_data, written_in, written_in_list, elements_of, saved_data}

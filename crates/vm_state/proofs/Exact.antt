@@ -1,5 +1,5 @@
 -- What loading gives comes exactly where it is said.
-use Rattle.std.proofs.Common.{◌≡◌, ◌≢◌, ◌↔◌, ℕ, List, Bool, true, false, cond, Option, Some, None, Result, Ok, Err, refl, sym, ap, ◌∙◌}
+use Rattle.std.proofs.Common.{◌≡◌, ◌≢◌, ℕ, List, Bool, true, false, cond, Option, Some, None, Result, Ok, Err, refl, sym, ap, ◌∙◌}
 use Rattle.std.specs.Prelude.{bytes_eq}
 use Rattle.std.specs.Cmp.Lexicographic.{nat_list_eq_equiv, bytes_decides}
 use Rattle.serde_json.specs.Data.{Data}
@@ -7,7 +7,7 @@ use Rattle.serde_json.specs.Read.{read}
 use Rattle.hog_ops.specs.Plain.{Ops}
 use Rattle.vm_state.specs.declared.stop.StateStop.{StateStop}
 use Rattle.vm_state.specs.declared.stop.StateStop.TheVariants as stops
-use Rattle.vm_state.specs.Saved.{Saved, Format, Written}
+use Rattle.vm_state.specs.Saved.{Saved, Written}
 use Rattle.vm_state.specs.Code.{belongs}
 use Rattle.vm_state.specs.Text.{text_in, state_in, of_written, of_read, load_of}
 use Rattle.vm_state.specs.Refusals.{IsStateOf, IsLoaded, IsRefused}

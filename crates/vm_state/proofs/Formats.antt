@@ -1,16 +1,14 @@
 -- What was loaded is a state, belongs to the code, and has the format of its text.
-use Rattle.std.proofs.Common.{◌≡◌, ℕ, List, [], ◌∷◌, Bool, true, false, cond, ◌&&◌, ◌==◌, Option, Some, None, Result, Ok, Err, refl, sym, ap, ◌∙◌}
+use Rattle.std.proofs.Common.{◌≡◌, ℕ, List, [], ◌∷◌, Bool, true, false, cond, ◌&&◌, ◌==◌, Option, Some, None, refl, sym, ap, ◌∙◌}
 use Rattle.std.proofs.lemmas.Option.{same_Some}
 use Rattle.std.specs.Prelude.{option_and_then}
 use Rattle.serde_json.specs.Data.{Data}
-use Rattle.serde_json.specs.Read.{read}
 use Rattle.hog_ops.specs.Plain.{Ops}
 use Rattle.state_forms.specs.Shapes.{◌>>=◌, list_in, u32_in}
 use Rattle.vm_state.specs.Saved.{Saved, Format, First, Second, Written, requests_in}
 use Rattle.vm_state.specs.Layout.{Counts, counts_in, rest_in, rest_by, format_in, written_by, behind_format, written_in_list, written_in}
 use Rattle.vm_state.specs.Tests.{is_state, is_written, format_stands}
-use Rattle.vm_state.specs.Code.{belongs}
-use Rattle.vm_state.specs.Text.{text_in, where_state, state_in, load_of}
+use Rattle.vm_state.specs.Text.{text_in, where_state, state_in}
 use Rattle.vm_state.specs.Refusals.{IsLoaded}
 use Rattle.vm_state.specs.Laws.{format_of_text, SavesLoaded, HasFormat, LoadsStates}
 use Rattle.vm_state.proofs.Exact.{loads_exactly}

@@ -1,18 +1,14 @@
 -- Loading what was saved, and saving what was loaded.
-use Rattle.std.proofs.Common.{◌≡◌, ◌≢◌, ℕ, List, [], ◌∷◌, Bool, true, false, cond, ◌&&◌, ◌==◌, Option, Some, None, Result, Ok, Err, refl, sym, ap, ap₂, ◌∙◌, arith}
+use Rattle.std.proofs.Common.{◌≡◌, ◌≢◌, ℕ, Bool, true, false, cond, ◌&&◌, ◌==◌, Some, None, Ok, Err, refl, ap, ◌∙◌, arith}
 use Rattle.std.proofs.lemmas.Bool.Decides.{nat_tests}
-use Rattle.std.proofs.lemmas.Option.{same_Some}
-use Rattle.std.specs.Prelude.{bytes_eq, not}
-use Rattle.std.specs.Cmp.Lexicographic.{nat_list_eq_equiv, bytes_decides}
-use Rattle.serde_json.specs.Data.{Data}
-use Rattle.serde_json.specs.Read.{read}
+use Rattle.std.specs.Prelude.{bytes_eq}
+use Rattle.std.specs.Cmp.Lexicographic.{nat_list_eq_equiv}
 use Rattle.hog_value.specs.declared.trace.End.TheVariants as end
 use Rattle.hog_ops.specs.Plain.{Ops}
 use Rattle.vm_frames.specs.State.{Running, Waiting, Ended, Mode}
-use Rattle.vm_state.specs.declared.stop.StateStop.{StateStop}
 use Rattle.vm_state.specs.declared.stop.StateStop.TheVariants as stops
-use Rattle.vm_state.specs.Saved.{Saved, Format, First, Second, Written, requests_in, ended_with, is_fetches}
-use Rattle.vm_state.specs.Layout.{written_in, saved_data}
+use Rattle.vm_state.specs.Saved.{Saved, Format, First, Second, requests_in}
+use Rattle.vm_state.specs.Layout.{saved_data}
 use Rattle.vm_state.specs.Tests.{is_state, is_written, format_stands}
 use Rattle.vm_state.specs.Code.{belongs}
 use Rattle.vm_state.specs.Text.{text_in, where_state, state_in, of_written, of_read, load_of}

@@ -1,14 +1,13 @@
 -- A machine's data is plain and shallow, so its text reads as it.
-use Rattle.std.proofs.Common.{◌≡◌, ℕ, ◌<◌, ◌^◌, List, [], ◌∷◌, ◌++◌, Some, map, reverse, arith}
+use Rattle.std.proofs.Common.{◌≡◌, Some, reverse, arith}
 use Rattle.std.specs.Prelude.{codes}
 use Rattle.serde_json.specs.Read.{read}
 use Rattle.plain_json.specs.Fine.{Fine, AllFine, ◌&◌, done, fine_list, fine_map, fine_more}
 use Rattle.plain_json.specs.Inverse.{reads_back}
-use Rattle.state_forms.specs.Shapes.{list, number_data}
 use Rattle.state_forms.specs.Values.{value_data, cell_data, ValueFits, CellFits}
 use Rattle.state_forms.specs.Shown.{item_data}
 use Rattle.state_forms.proofs.Plain.{number_fine, small_fine, word_fine, value_fine, cell_fine, maybe_fine, item_fine, end_fine}
-use Rattle.vm_frames.specs.State.{Upvalue, Opened, Closed, Frame, ThrowFrame, Running, Waiting, Ended, Mode, State}
+use Rattle.vm_frames.specs.State.{Upvalue, Opened, Closed, Frame, ThrowFrame, Running, Waiting, Ended, Mode}
 use Rattle.vm_state.specs.Saved.{Saved, Format, First, Second, requests_in}
 use Rattle.vm_state.specs.Layout.{frame_data, throw_data, upvalue_data, mode_data, rest_data, saved_data}
 use Rattle.vm_state.specs.Text.{text_in}

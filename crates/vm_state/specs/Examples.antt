@@ -1,5 +1,5 @@
 -- The machine of `return 1;` after its first operation and one more, saved, loaded, and refused in each way.
-use Rattle.std.specs.Prelude.{◌≡◌, ℕ, pos, List, [], ◌∷◌, Some, None, Ok, Err, codes}
+use Rattle.std.specs.Prelude.{◌≡◌, pos, [], ◌∷◌, Some, None, Ok, Err, codes}
 use Rattle.std.proofs.Common.{refl}
 use Rattle.std.specs.Fmt.{digits}
 use Rattle.serde_json.proofs.OnLiterals.{serde_json_on_literals}
@@ -9,7 +9,7 @@ use Rattle.hog_ops.specs.Plain.{Ops, NoOp, MoreOp, Integer, PushNull, Return}
 use Rattle.vm_frames.specs.State.{Running}
 use Rattle.state_forms.specs.Shapes.{list_by}
 use Rattle.vm_state.specs.declared.stop.StateStop.TheVariants as stops
-use Rattle.vm_state.specs.Saved.{Saved, First, Second}
+use Rattle.vm_state.specs.Saved.{Saved, First}
 use Rattle.vm_state.specs.Layout.{counts_in, calls_in, held_in, rest_in}
 use Rattle.vm_state.specs.Tests.{is_state, is_written}
 use Rattle.vm_state.specs.Code.{belongs}

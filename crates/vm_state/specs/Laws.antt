@@ -1,13 +1,13 @@
 -- How saving and loading undo one another.
-use Rattle.std.specs.Prelude.{◌≡◌, ◌↔◌, ◌≢◌, ℕ, ◌<◌, ◌^◌, List, [], ◌∷◌, ◌++◌, true, Option, Some, None, IfSome, Result, Ok, Err, option_and_then}
+use Rattle.std.specs.Prelude.{◌≡◌, ◌↔◌, ◌≢◌, ℕ, ◌<◌, ◌^◌, List, [], ◌∷◌, true, Option, Some, IfSome, Ok, Err, option_and_then}
 use Rattle.std.specs.List.{AllByRecursion}
-use Rattle.serde_json.specs.Data.{Data, string}
+use Rattle.serde_json.specs.Data.{Data}
 use Rattle.serde_json.specs.Read.{read}
 use Rattle.hog_value.specs.declared.trace.End.TheVariants as end
 use Rattle.hog_ops.specs.Plain.{Ops}
 use Rattle.state_forms.specs.Shapes.{list_in, number_data}
 use Rattle.state_forms.specs.Values.{ValueFits, CellFits}
-use Rattle.vm_frames.specs.State.{Upvalue, Opened, Closed, Frame, ThrowFrame, Ended, State}
+use Rattle.vm_frames.specs.State.{Upvalue, Opened, Closed, Frame, ThrowFrame, Ended}
 use Rattle.vm_state.specs.declared.stop.StateStop.{StateStop}
 use Rattle.vm_state.specs.declared.stop.StateStop.TheVariants as stops
 use Rattle.vm_state.specs.Saved.{Saved, Format, First, Second, requests_in}

@@ -1,5 +1,5 @@
 -- How a machine is written as JSON data, and how data is read as a machine.
-use Rattle.std.specs.Prelude.{ℕ, ◌==◌, ◌&&◌, List, [], ◌∷◌, ◌++◌, Bool, false, Option, Some, None, is_some, if◌then◌else◌, map, reverse, codes, bytes_eq}
+use Rattle.std.specs.Prelude.{ℕ, ◌==◌, List, [], ◌∷◌, ◌++◌, Bool, false, Option, Some, None, is_some, if◌then◌else◌, map, reverse, codes, bytes_eq}
 use Rattle.serde_json.specs.Data.{Data, null, string}
 use Rattle.serde_json.specs.Find.{as_null, as_str}
 use Rattle.hog_value.specs.declared.cell.FunCell.{FunCell}
@@ -9,7 +9,7 @@ use Rattle.hog_value.specs.Cells.{HeapOf}
 use Rattle.state_forms.specs.Shapes.{◌>>=◌, list_in, list, list_by, u32_in, u64_in, number_data, maybe_in, maybe_data}
 use Rattle.state_forms.specs.Values.{value_in, value_data, cell_in, cell_data}
 use Rattle.state_forms.specs.Shown.{item_in, item_data, end_in, end_data}
-use Rattle.vm_frames.specs.State.{Upvalue, Opened, Closed, Frame, ThrowFrame, Running, Waiting, Ended, Mode, State}
+use Rattle.vm_frames.specs.State.{Upvalue, Opened, Closed, Frame, ThrowFrame, Running, Waiting, Ended, Mode}
 use Rattle.vm_state.specs.Saved.{Saved, Format, First, Second, Written, requests_in}
 
 -- [place, base, cell of the function or null]

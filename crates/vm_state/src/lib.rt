@@ -5,6 +5,7 @@
 //! Above, `load` is to give exactly `load_of`, and `save` the text in the second format.
 #![tactic(auto)]
 
+pub mod laws;
 pub mod stop;
 
 pub use stop::StateStop;
