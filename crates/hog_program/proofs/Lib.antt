@@ -4,3 +4,4 @@ pub mod PreludeTexts
 pub mod Wholes
 pub mod Spelled
 pub mod Nesting
+pub mod Courses

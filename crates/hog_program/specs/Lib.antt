@@ -4,3 +4,4 @@ pub mod Prelude
 pub mod Build
 pub mod Placing
 pub mod Program
+pub mod Course

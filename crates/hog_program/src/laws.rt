@@ -4,6 +4,7 @@ ghost use Rattle.std.specs.Prelude.{◌≡◌, ℕ, List};
 ghost use Rattle.hog_bridge.specs.Laws.{IsNamed};
 ghost use Rattle.hog_tree.specs.Plain.{Stms};
 ghost use Rattle.hog_program.specs.Build.{IsBuilt, IsUnbuilt};
+ghost use Rattle.hog_program.specs.Course.{OneMeaning, CourseShowsMeaning, CourseIsShort};
 ghost use Rattle.hog_program.specs.Source.{IsProgram, IsNone, ReadsBack};
 ghost use Rattle.hog_program.specs.declared.stop.BuildStop.{BuildStop};
 
@@ -51,3 +52,27 @@ pub fn printed_reads_back()
 pub fn built_is_named()
     ensures { (source : List ℕ) (whole : Stms) → IsBuilt source whole → IsNamed whole }
 {}
+
+/// One thing at most comes of a source on globals and replies.
+pub fn one_meaning()
+    ensures { OneMeaning }
+{
+    one_whole();
+}
+
+/// The course on the code of a source shows exactly what comes of the source.
+pub fn course_shows_meaning()
+    ensures { CourseShowsMeaning }
+{
+    built_is_named();
+    hog_bridge::laws::course_is_meaning();
+    hog_bridge::laws::course_rests();
+}
+
+/// A course on the code of a source is no longer than the turns that it has spent allow.
+pub fn course_is_short()
+    ensures { CourseIsShort }
+{
+    built_is_named();
+    hog_bridge::laws::course_is_bounded();
+}
