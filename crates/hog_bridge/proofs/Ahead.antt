@@ -5,7 +5,7 @@ use Rattle.std.proofs.lemmas.Option.{none-some}
 use Rattle.hog_ops.specs.declared.capture.Capture.{Capture}
 use Rattle.hog_ops.specs.Plain.{Op, Ops, NoOp, MoreOp, ◌⊕◌, Callable}
 use Rattle.hog_ops.specs.Table.{size, span}
-use Rattle.vm_frames.specs.State.{Slot, Begins, BodyEnds, Operand, header}
+use Rattle.vm_course.specs.State.{Slot, Begins, BodyEnds, Operand, header}
 
 abbrev mutual
   -- these operations stand at a place of the code, with the bodies of functions where their operations tell

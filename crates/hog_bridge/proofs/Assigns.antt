@@ -22,11 +22,11 @@ use Rattle.hog_meaning.specs.Meaning as mean
 use Rattle.hog_ops.specs.Plain as o
 use Rattle.hog_ops.specs.Plain.{Op, Ops, NoOp, MoreOp, ◌⊕◌}
 use Rattle.hog_ops.specs.Table.{size, span}
-use Rattle.vm_frames.specs.State.{Slot, Begins, Frame, State, Upvalue, Opened, Closed, header, function_at}
-use Rattle.vm_frames.specs.Stack.{push, top_of, with_value, captured_in, captured_by, write_to, write_numbered, write_upvalue, capture_all}
-use Rattle.vm_frames.specs.Throws.{on_outcome}
-use Rattle.vm_frames.specs.Step as vm
-use Rattle.vm_frames.specs.Step.{step, act, on_with, on_and_push}
+use Rattle.vm_course.specs.State.{Slot, Begins, Frame, State, Upvalue, Opened, Closed, header, function_at}
+use Rattle.vm_course.specs.Stack.{push, top_of, with_value, captured_in, captured_by, write_to, write_numbered, write_upvalue, capture_all}
+use Rattle.vm_course.specs.Throws.{on_outcome}
+use Rattle.vm_course.specs.Step as vm
+use Rattle.vm_course.specs.Step.{step, act, on_with, on_and_push}
 use Rattle.hog_bridge.proofs.Words.{In, Sub, sub_past, onto, with_word}
 use Rattle.hog_bridge.proofs.Resolved.{StmsOk, sight_of}
 use Rattle.hog_bridge.proofs.Places.{Seat, Temp, Var, read, seat_at, place_of, up_of, up_of_place, stack_of, ups_of, length-stack, seat_place}

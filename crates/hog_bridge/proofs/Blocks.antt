@@ -19,11 +19,11 @@ use Rattle.hog_meaning.specs.Meaning.{leave, on_flow}
 use Rattle.hog_ops.specs.Plain as o
 use Rattle.hog_ops.specs.Plain.{Op, Ops, NoOp, MoreOp, ◌⊕◌}
 use Rattle.hog_ops.specs.Table.{size, span}
-use Rattle.vm_frames.specs.State.{Slot, Begins, Frame, State}
-use Rattle.vm_frames.specs.Stack.{cut_to, push, keep, top_of}
-use Rattle.vm_frames.specs.Throws.{ends, ends_shown, goto, throw_value}
-use Rattle.vm_frames.specs.Step as vm
-use Rattle.vm_frames.specs.Step.{step, act, on_with, jump, jump_or_back, give_back, throws_around}
+use Rattle.vm_course.specs.State.{Slot, Begins, Frame, State}
+use Rattle.vm_course.specs.Stack.{cut_to, push, keep, top_of}
+use Rattle.vm_course.specs.Throws.{ends, ends_shown, goto, throw_value}
+use Rattle.vm_course.specs.Step as vm
+use Rattle.vm_course.specs.Step.{step, act, on_with, jump, jump_or_back, give_back, throws_around}
 use Rattle.hog_bridge.proofs.Words.{Sub, with_word}
 use Rattle.hog_bridge.proofs.Places.{Seat, Temp, Var, stack_of, Distinct, length-stack, lower}
 use Rattle.hog_bridge.proofs.Ahead.{HasAt, has_front, has_back, span-after, left, left_past}

@@ -17,10 +17,10 @@ use Rattle.hog_meaning.specs.Meaning.{Effect, is_null, call_native, call_value, 
 use Rattle.hog_ops.specs.Plain as o
 use Rattle.hog_ops.specs.Plain.{Op, Ops, NoOp, MoreOp, ◌⊕◌}
 use Rattle.hog_ops.specs.Table.{size, span}
-use Rattle.vm_frames.specs.State.{Slot, Begins, State}
-use Rattle.vm_frames.specs.Stack.{top_of}
-use Rattle.vm_frames.specs.Throws.{goto}
-use Rattle.vm_frames.specs.Step.{step, act, on_with, jump}
+use Rattle.vm_course.specs.State.{Slot, Begins, State}
+use Rattle.vm_course.specs.Stack.{top_of}
+use Rattle.vm_course.specs.Throws.{goto}
+use Rattle.vm_course.specs.Step.{step, act, on_with, jump}
 use Rattle.hog_bridge.proofs.Words.{In, Sub}
 use Rattle.hog_bridge.proofs.Resolved.{NativeOk, CalleeOk, sight_of, out_of_sight}
 use Rattle.hog_bridge.proofs.Places.{Seat, Temp, Var, stack_of, temps}

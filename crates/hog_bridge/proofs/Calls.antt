@@ -27,11 +27,11 @@ use Rattle.hog_ops.specs.declared.capture.Capture.{Capture}
 use Rattle.hog_ops.specs.Plain as o
 use Rattle.hog_ops.specs.Plain.{Op, Ops}
 use Rattle.hog_ops.specs.Table.{size, span}
-use Rattle.vm_frames.specs.State.{Slot, Begins, Frame, State, Upvalue, header, function_in, function_at, params_in, params_at}
-use Rattle.vm_frames.specs.Stack.{cut_to, push, top_of, captured_by, capture_all}
-use Rattle.vm_frames.specs.Throws.{ends, throw_kind, on_outcome, with_turn}
-use Rattle.vm_frames.specs.Step as vm
-use Rattle.vm_frames.specs.Step.{step, act, on_with, on_and_push, make_function, with_arguments, call_found, call_value}
+use Rattle.vm_course.specs.State.{Slot, Begins, Frame, State, Upvalue, header, function_in, function_at, params_in, params_at}
+use Rattle.vm_course.specs.Stack.{cut_to, push, top_of, captured_by, capture_all}
+use Rattle.vm_course.specs.Throws.{ends, throw_kind, on_outcome, with_turn}
+use Rattle.vm_course.specs.Step as vm
+use Rattle.vm_course.specs.Step.{step, act, on_with, on_and_push, make_function, with_arguments, call_found, call_value}
 use Rattle.hog_bridge.proofs.Words.{Sub, sub_params, sub_same, onto}
 use Rattle.hog_bridge.proofs.Resolved.{BodyOk, sight_of}
 use Rattle.hog_bridge.proofs.Places.{Seat, Temp, Var, place_of, up_of, stack_of, ups_of, Distinct, length-stack, temps, length-temps}

@@ -10,8 +10,8 @@ use Rattle.hog_captures.specs.Frames as names
 use Rattle.hog_captures.specs.Frames.{find_local, find_up, next_index, is_found, knows, captured_of, captures_of, capture}
 use Rattle.hog_meaning.specs.World.{World, Env, find_var}
 use Rattle.hog_ops.specs.declared.capture.Capture.{Capture}
-use Rattle.vm_frames.specs.State.{Slot, Upvalue, Opened, Closed, Frame, State}
-use Rattle.vm_frames.specs.Stack.{one_on, find_open, or_opened, or_closed, capture_one, capture_all}
+use Rattle.vm_course.specs.State.{Slot, Upvalue, Opened, Closed, Frame, State}
+use Rattle.vm_course.specs.Stack.{one_on, find_open, or_opened, or_closed, capture_one, capture_all}
 use Rattle.hog_bridge.proofs.Words.{In, Sub, Tells, word_tells, captured_known, known_captured, found_in}
 use Rattle.hog_bridge.proofs.Places.{Seat, Temp, Var, read, seat_at, place_of, up_of, up_of_place, stack_of, ups_of, owner_of, Distinct, placed, seat_place, seat_within}
 use Rattle.hog_bridge.proofs.Heaps.{AllFuns, all_map}

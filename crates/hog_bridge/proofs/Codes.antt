@@ -5,8 +5,8 @@ use Rattle.std.proofs.lemmas.Option.{none-some, same_Some}
 use Rattle.hog_ops.specs.declared.capture.Capture.{Capture}
 use Rattle.hog_ops.specs.Plain.{Op, Ops, NoOp, MoreOp, Callable, Str}
 use Rattle.hog_ops.specs.Table.{size, span}
-use Rattle.vm_frames.specs.State.{Slot, Begins, BodyEnds, Operand, op_slots, slots, code_slots, header}
-use Rattle.vm_frames.specs.Course.{op_texts, texts}
+use Rattle.vm_course.specs.State.{Slot, Begins, BodyEnds, Operand, op_slots, slots, code_slots, header}
+use Rattle.vm_course.specs.Course.{op_texts, texts}
 use Rattle.hog_bridge.specs.Laws.{op_operations, operations}
 use Rattle.hog_bridge.proofs.Words.{In, in_left, in_right}
 use Rattle.hog_bridge.proofs.Ahead.{HasAt, InnerAt, left, weight}

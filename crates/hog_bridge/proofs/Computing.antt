@@ -1,10 +1,10 @@
 -- What programs are computed with, both ways: a proof that unfolds `computing` unfolds all of it.
 use Rattle.hog_meaning.specs.Program.{meaning, outcome, first_cells}
 use Rattle.hog_compiler.specs.Code.{code_of}
-use Rattle.vm_frames.specs.Course.{machine}
-use Rattle.vm_frames.specs.Step.{act}
+use Rattle.vm_course.specs.Course.{machine}
+use Rattle.vm_course.specs.Step.{act}
 use Rattle.hog_meaning.specs.World.{throws}
-use Rattle.vm_frames.specs.Throws.{throw_kind}
+use Rattle.vm_course.specs.Throws.{throw_kind}
 use Rattle.hog_library.specs.Cells.{thrown, array_of_texts, response, blocked}
 use Rattle.hog_value.specs.Operations.{made, truth_of, same_of, item_of, key_of, set_item_of, set_key_of}
 use Rattle.hog_meaning.specs.Operators.{operated, negated, accessed, assigned, dictionary_made}

@@ -20,9 +20,9 @@ use Rattle.hog_meaning.specs.Meaning.{Effect, Copies, LoopOver, leave, on_flow, 
 use Rattle.hog_ops.specs.Plain as o
 use Rattle.hog_ops.specs.Plain.{Op, Ops, NoOp, MoreOp, ◌⊕◌}
 use Rattle.hog_ops.specs.Table.{size, span}
-use Rattle.vm_frames.specs.State.{Slot, Begins, Frame, State}
-use Rattle.vm_frames.specs.Stack.{with_value, top_of}
-use Rattle.vm_frames.specs.Step.{step, act, on_with}
+use Rattle.vm_course.specs.State.{Slot, Begins, Frame, State}
+use Rattle.vm_course.specs.Stack.{with_value, top_of}
+use Rattle.vm_course.specs.Step.{step, act, on_with}
 use Rattle.hog_bridge.proofs.Words.{In, Sub, with_word}
 use Rattle.hog_bridge.proofs.Resolved.{StmsOk}
 use Rattle.hog_bridge.proofs.Places.{Seat, Temp, Var, seat_at, stack_of, Distinct, length-stack, seat_top, seat_push, lower}

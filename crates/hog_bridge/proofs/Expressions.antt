@@ -17,7 +17,7 @@ use Rattle.hog_meaning.specs.Meaning.{Effect, literal, value, values, parts, pai
 use Rattle.hog_ops.specs.Plain as o
 use Rattle.hog_ops.specs.Plain.{Op, Ops, NoOp, MoreOp, ◌⊕◌}
 use Rattle.hog_ops.specs.Table.{size, span}
-use Rattle.vm_frames.specs.State.{Slot, Begins, State}
+use Rattle.vm_course.specs.State.{Slot, Begins, State}
 use Rattle.hog_bridge.proofs.Words.{In, Sub, sub_left, sub_right}
 use Rattle.hog_bridge.proofs.Resolved.{CalleeOk, ExpOk, ExpsOk, PartsOk, PairsOk}
 use Rattle.hog_bridge.proofs.Places.{Seat, Temp, Var, temps}

@@ -29,11 +29,11 @@ use Rattle.hog_meaning.specs.Meaning as e
 use Rattle.hog_ops.specs.Plain as o
 use Rattle.hog_ops.specs.Plain.{Op, Ops, NoOp, MoreOp}
 use Rattle.hog_ops.specs.Table.{size, span}
-use Rattle.vm_frames.specs.State.{Slot, Begins, Frame, State, Upvalue, Opened, Closed, function_in, function_at}
-use Rattle.vm_frames.specs.Stack.{value_at, or_null, cut_to, push, top_of, taken, captured_in, captured_by, upvalue_of, upvalue_value}
-use Rattle.vm_frames.specs.Throws.{ends, goto, on_result, on_outcome}
-use Rattle.vm_frames.specs.Step as vm
-use Rattle.vm_frames.specs.Step.{step, act, on_with, on_and_push, property_path, global_of, get_global, spent_by, call_global}
+use Rattle.vm_course.specs.State.{Slot, Begins, Frame, State, Upvalue, Opened, Closed, function_in, function_at}
+use Rattle.vm_course.specs.Stack.{value_at, or_null, cut_to, push, top_of, taken, captured_in, captured_by, upvalue_of, upvalue_value}
+use Rattle.vm_course.specs.Throws.{ends, goto, on_result, on_outcome}
+use Rattle.vm_course.specs.Step as vm
+use Rattle.vm_course.specs.Step.{step, act, on_with, on_and_push, property_path, global_of, get_global, spent_by, call_global}
 use Rattle.hog_bridge.proofs.Words.{In}
 use Rattle.hog_bridge.proofs.Places.{Seat, Temp, Var, read, shown_seat, seat_at, place_of, up_of, up_of_place, stack_of, ups_of, Distinct, placed, value_seat, lower, temps, distinct_temps}
 use Rattle.hog_bridge.proofs.Ahead.{HasAt, left}

@@ -16,7 +16,7 @@ use Rattle.hog_meaning.specs.Program.{charged_end}
 use Rattle.hog_ops.specs.Plain as o
 use Rattle.hog_ops.specs.Plain.{Ops, MoreOp, ◌⊕◌}
 use Rattle.hog_ops.specs.Table.{span}
-use Rattle.vm_frames.specs.State.{Frame, Ended, State}
+use Rattle.vm_course.specs.State.{Frame, Ended, State}
 use Rattle.hog_bridge.proofs.Words.{Sub, with_word}
 use Rattle.hog_bridge.proofs.Resolved.{StmOk, StmsOk, BodyOk, OptionExpOk, OptionStmOk}
 use Rattle.hog_bridge.proofs.Places.{Seat, Temp, Var}

@@ -20,7 +20,7 @@ use Rattle.hog_scope.specs.Words.{count_of}
 use Rattle.hog_scope.specs.Literals.{in_byte_order}
 use Rattle.hog_scope.specs.Scopes.{items_of}
 use Rattle.hog_meaning.specs.Program.{texts_by, texts_in}
-use Rattle.vm_frames.specs.Course.{op_texts, texts, literals_of_code}
+use Rattle.vm_course.specs.Course.{op_texts, texts, literals_of_code}
 use Rattle.hog_bridge.specs.Steady.{StmsSteady}
 use Rattle.hog_bridge.proofs.Words.{with_word, onto}
 use Rattle.hog_bridge.proofs.Sights.{read_texts}

@@ -27,11 +27,11 @@ use Rattle.hog_meaning.specs.World as m
 use Rattle.hog_meaning.specs.Meaning.{place_in, literal, most_requests, is_request, is_fetch, is_null, call_native, read_word}
 use Rattle.hog_ops.specs.Plain as o
 use Rattle.hog_ops.specs.Plain.{Op, Ops, NoOp, MoreOp}
-use Rattle.vm_frames.specs.State.{Slot, Begins, State, Upvalue, Opened, Closed, function_in, function_at}
-use Rattle.vm_frames.specs.Stack.{value_at, or_null, push, top_of, taken, captured_in, captured_by, upvalue_of, upvalue_value}
-use Rattle.vm_frames.specs.Throws.{ends, on_result, on_outcome}
-use Rattle.vm_frames.specs.Step as vm
-use Rattle.vm_frames.specs.Step.{step, act, on_with, on_and_push, property_path, global_of, get_global, spent_by, call_global, binary}
+use Rattle.vm_course.specs.State.{Slot, Begins, State, Upvalue, Opened, Closed, function_in, function_at}
+use Rattle.vm_course.specs.Stack.{value_at, or_null, push, top_of, taken, captured_in, captured_by, upvalue_of, upvalue_value}
+use Rattle.vm_course.specs.Throws.{ends, on_result, on_outcome}
+use Rattle.vm_course.specs.Step as vm
+use Rattle.vm_course.specs.Step.{step, act, on_with, on_and_push, property_path, global_of, get_global, spent_by, call_global, binary}
 use Rattle.hog_bridge.proofs.Places.{Seat, Temp, Var, read, shown_seat, seat_at, place_of, up_of, up_of_place, stack_of, ups_of, placed, value_seat, temps}
 use Rattle.hog_bridge.proofs.Ahead.{HasAt}
 use Rattle.hog_bridge.proofs.Heaps.{keeps_grows, fun_at, fun_of, called_fair}

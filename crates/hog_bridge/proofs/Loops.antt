@@ -17,9 +17,9 @@ use Rattle.hog_meaning.specs.Meaning.{Effect, Loop, LoopWithStep, leave, on_flow
 use Rattle.hog_ops.specs.Plain as o
 use Rattle.hog_ops.specs.Plain.{Op, Ops, NoOp, MoreOp, ◌⊕◌}
 use Rattle.hog_ops.specs.Table.{size, span}
-use Rattle.vm_frames.specs.State.{Slot, Begins, Frame, State, ThrowFrame}
-use Rattle.vm_frames.specs.Throws.{ends, goto, with_turn}
-use Rattle.vm_frames.specs.Step.{step, act, on_with, jump, jump_or_back, place_at, without_try}
+use Rattle.vm_course.specs.State.{Slot, Begins, Frame, State, ThrowFrame}
+use Rattle.vm_course.specs.Throws.{ends, goto, with_turn}
+use Rattle.vm_course.specs.Step.{step, act, on_with, jump, jump_or_back, place_at, without_try}
 use Rattle.hog_bridge.proofs.Words.{Sub}
 use Rattle.hog_bridge.proofs.Resolved.{StmOk, StmsOk, OptionExpOk, OptionStmOk}
 use Rattle.hog_bridge.proofs.Places.{Seat, Temp, Var, stack_of, length-stack}

@@ -27,11 +27,11 @@ use Rattle.hog_meaning.specs.World as m
 use Rattle.hog_meaning.specs.Meaning.{place_in, literal, most_requests, is_request, is_fetch, is_null, call_native, read_word}
 use Rattle.hog_ops.specs.Plain as o
 use Rattle.hog_ops.specs.Plain.{Op, Ops, NoOp, MoreOp}
-use Rattle.vm_frames.specs.State.{Slot, Begins, State, Upvalue, Opened, Closed, function_in, function_at}
-use Rattle.vm_frames.specs.Stack.{value_at, or_null, push, top_of, taken, captured_in, captured_by, upvalue_of, upvalue_value}
-use Rattle.vm_frames.specs.Throws.{ends, on_result, on_outcome}
-use Rattle.vm_frames.specs.Step as vm
-use Rattle.vm_frames.specs.Step.{step, act, on_with, on_and_push, property_path, global_of, get_global, spent_by, call_global, binary}
+use Rattle.vm_course.specs.State.{Slot, Begins, State, Upvalue, Opened, Closed, function_in, function_at}
+use Rattle.vm_course.specs.Stack.{value_at, or_null, push, top_of, taken, captured_in, captured_by, upvalue_of, upvalue_value}
+use Rattle.vm_course.specs.Throws.{ends, on_result, on_outcome}
+use Rattle.vm_course.specs.Step as vm
+use Rattle.vm_course.specs.Step.{step, act, on_with, on_and_push, property_path, global_of, get_global, spent_by, call_global, binary}
 use Rattle.hog_bridge.proofs.Places.{Seat, Temp, Var, read, shown_seat, seat_at, place_of, up_of, up_of_place, stack_of, ups_of, placed, value_seat, temps, seats_of, temps_over}
 use Rattle.hog_bridge.proofs.Ahead.{HasAt}
 use Rattle.hog_bridge.proofs.Heaps.{keeps_grows, fun_at, fun_of, called_fair}
@@ -51,8 +51,8 @@ use Rattle.hog_bridge.proofs.Picture.{comes_then, comes_to}
 use Rattle.hog_bridge.proofs.Steps.{on_pic}
 use Rattle.hog_bridge.proofs.Exps.{rest_step, exp_then}
 use Rattle.hog_bridge.proofs.Lookups.{key_same, truth_same, operated_same, accessed_same, text_there, text_meant, text_runs, local_runs, upvalue_runs}
-use Rattle.vm_frames.specs.Step.{in_pairs, all_true, any_true, jump}
-use Rattle.vm_frames.specs.Throws.{goto}
+use Rattle.vm_course.specs.Step.{in_pairs, all_true, any_true, jump}
+use Rattle.vm_course.specs.Throws.{goto}
 use Rattle.hog_ops.specs.Table.{span}
 
 -- what is ready for an operation whose operands stand on the stack

@@ -25,11 +25,11 @@ use Rattle.hog_meaning.specs.Meaning as e
 use Rattle.hog_meaning.specs.Meaning.{most_requests, is_request, is_fetch, call_native}
 use Rattle.hog_meaning.specs.Program.{end_of}
 use Rattle.hog_ops.specs.Plain.{Op, CallGlobal}
-use Rattle.vm_frames.specs.State.{Slot, Begins, Running, Waiting, State}
-use Rattle.vm_frames.specs.Stack.{cut_to, push, taken}
-use Rattle.vm_frames.specs.Throws.{ends, goto, throw_kind, throw_made, on_result, on_outcome}
-use Rattle.vm_frames.specs.Step as vm
-use Rattle.vm_frames.specs.Step.{step, act, on_with, on_and_push, of_native, take_reply}
+use Rattle.vm_course.specs.State.{Slot, Begins, Running, Waiting, State}
+use Rattle.vm_course.specs.Stack.{cut_to, push, taken}
+use Rattle.vm_course.specs.Throws.{ends, goto, throw_kind, throw_made, on_result, on_outcome}
+use Rattle.vm_course.specs.Step as vm
+use Rattle.vm_course.specs.Step.{step, act, on_with, on_and_push, of_native, take_reply}
 use Rattle.hog_bridge.proofs.Places.{Seat, Temp, Var, stack_of, Distinct, temps, distinct_temps, lower}
 use Rattle.hog_bridge.proofs.Ahead.{left, left_past}
 use Rattle.hog_bridge.proofs.Heaps.{AllFuns, Keeps, keeps_same, keeps_grows, Fair, FunsKept, thrown_fair, response_fair, called_fair}

@@ -17,9 +17,9 @@ use Rattle.hog_meaning.specs.Meaning.{place_in}
 use Rattle.hog_meaning.specs.World.{Env, Closure, World, Fixed, Got, Gives, Throws, Waits, Spends, and_then, find_var}
 use Rattle.hog_meaning.specs.Program.{end_of, charged_end}
 use Rattle.hog_ops.specs.Plain.{Op, Str}
-use Rattle.vm_frames.specs.State.{Slot, Begins, Frame, ThrowFrame, Running, Waiting, Ended, Mode, State, params_at}
-use Rattle.vm_frames.specs.Step.{step}
-use Rattle.vm_frames.specs.Course.{steps}
+use Rattle.vm_course.specs.State.{Slot, Begins, Frame, ThrowFrame, Running, Waiting, Ended, Mode, State, params_at}
+use Rattle.vm_course.specs.Step.{step}
+use Rattle.vm_course.specs.Course.{steps}
 use Rattle.hog_bridge.proofs.Words.{In, onto}
 use Rattle.hog_bridge.proofs.Resolved.{BodyOk, sight_of}
 use Rattle.hog_bridge.proofs.Places.{Seat, Temp, Var, seat_at, place_of, stack_of, ups_of, owner_of, Distinct}

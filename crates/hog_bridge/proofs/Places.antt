@@ -4,8 +4,8 @@ use Rattle.std.specs.Prelude.{◌==◌, nat_lt, slice_get, unwrap_or}
 use Rattle.std.proofs.lemmas.Bool.Decides.{eqb_tells, nat_tests}
 use Rattle.hog_value.specs.Values.{Val}
 use Rattle.hog_value.specs.declared.value.Value.TheVariants.{Null}
-use Rattle.vm_frames.specs.State.{Upvalue, Opened, Closed}
-use Rattle.vm_frames.specs.Stack.{value_at, or_null, close, one_on}
+use Rattle.vm_course.specs.State.{Upvalue, Opened, Closed}
+use Rattle.vm_course.specs.Stack.{value_at, or_null, close, one_on}
 
 -- what stands at a place of the stack: a value of the run itself, or a variable of the meaning
 pub data Seat : Type 0 where

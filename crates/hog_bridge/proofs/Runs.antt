@@ -19,9 +19,9 @@ use Rattle.hog_compiler.specs.Code.{body_code, code_of}
 use Rattle.hog_meaning.specs.World.{Reply, World, Fixed, Got, Gives, Throws, Waits, Spends, Flow, GoesOn, Returns}
 use Rattle.hog_meaning.specs.Meaning.{Call, place_in, effect_at}
 use Rattle.hog_meaning.specs.Program.{Shows, shows, texts_in, first_cells, run_from, outcome, meaning}
-use Rattle.vm_frames.specs.State.{Slot, code_slots, Running, Waiting, Ended, Mode, State}
-use Rattle.vm_frames.specs.Step.{step, step_in, take_reply}
-use Rattle.vm_frames.specs.Course.{literals_of_code, started, fixed_by, steps, machine, IsOver, is_over_in, IsDefined}
+use Rattle.vm_course.specs.State.{Slot, code_slots, Running, Waiting, Ended, Mode, State}
+use Rattle.vm_course.specs.Step.{step, step_in, take_reply}
+use Rattle.vm_course.specs.Course.{literals_of_code, started, fixed_by, steps, machine, IsOver, is_over_in, IsDefined}
 use Rattle.hog_bridge.specs.Laws.{operations, HoldsTheSame, WaitsAlike, IsOnMeaning}
 use Rattle.hog_bridge.proofs.Words.{In, sub_same}
 use Rattle.hog_bridge.proofs.Resolved.{StmsOk}

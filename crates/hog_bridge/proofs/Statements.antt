@@ -17,7 +17,7 @@ use Rattle.hog_meaning.specs.Meaning.{Effect, Loop, LoopWithStep, Copies, leave,
 use Rattle.hog_ops.specs.Plain as o
 use Rattle.hog_ops.specs.Plain.{Op, Ops, NoOp, MoreOp, ◌⊕◌}
 use Rattle.hog_ops.specs.Table.{size, span}
-use Rattle.vm_frames.specs.State.{Slot, Begins, Frame, State}
+use Rattle.vm_course.specs.State.{Slot, Begins, Frame, State}
 use Rattle.hog_bridge.proofs.Words.{In, Sub, sub_left, sub_right, sub_past, sub_name, with_word}
 use Rattle.hog_bridge.proofs.Resolved.{ExpOk, StmOk, StmsOk, OptionExpOk, OptionStmOk, OptionStmsOk}
 use Rattle.hog_bridge.proofs.Places.{Seat, Temp, Var}

@@ -20,11 +20,11 @@ use Rattle.hog_meaning.specs.World as m
 use Rattle.hog_meaning.specs.Program.{charged_end}
 use Rattle.hog_ops.specs.Plain.{Op}
 use Rattle.hog_ops.specs.Table.{size}
-use Rattle.vm_frames.specs.State.{Slot, Begins, Frame, ThrowFrame, Ended, State}
-use Rattle.vm_frames.specs.Stack.{cut_to, push, keep, height_of, top_of, taken}
-use Rattle.vm_frames.specs.Throws.{ends, ends_shown, goto, caught, throw_to}
-use Rattle.vm_frames.specs.Step as vm
-use Rattle.vm_frames.specs.Step.{step, at_slot, act, on_with}
+use Rattle.vm_course.specs.State.{Slot, Begins, Frame, ThrowFrame, Ended, State}
+use Rattle.vm_course.specs.Stack.{cut_to, push, keep, height_of, top_of, taken}
+use Rattle.vm_course.specs.Throws.{ends, ends_shown, goto, caught, throw_to}
+use Rattle.vm_course.specs.Step as vm
+use Rattle.vm_course.specs.Step.{step, at_slot, act, on_with}
 use Rattle.hog_bridge.proofs.Places.{Seat, Temp, Var, shown_seat, stack_of, Distinct, length-stack, close_ups, lower, temps, seat_push}
 use Rattle.hog_bridge.proofs.Ahead.{left, left_later, left_past, left_some}
 use Rattle.hog_bridge.proofs.Heaps.{AllFuns, Keeps}

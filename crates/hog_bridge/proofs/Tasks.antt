@@ -13,7 +13,7 @@ use Rattle.hog_meaning.specs.Meaning.{Effect, Copies, Call, LoopOver, LoopWithSt
 use Rattle.hog_ops.specs.Plain as o
 use Rattle.hog_ops.specs.Plain.{Ops, NoOp, MoreOp, ◌⊕◌}
 use Rattle.hog_ops.specs.Table.{span}
-use Rattle.vm_frames.specs.State.{State}
+use Rattle.vm_course.specs.State.{State}
 use Rattle.hog_bridge.proofs.Words.{Sub, sub_left, sub_right, sub_past, sub_name, with_word}
 use Rattle.hog_bridge.proofs.Resolved.{BodyOk, StmsOk, OptionExpOk, OptionStmOk}
 use Rattle.hog_bridge.proofs.Places.{Seat, Temp}

@@ -11,8 +11,8 @@ use Rattle.hog_tree.specs.Plain.{Word}
 use Rattle.hog_captures.specs.Frames as names
 use Rattle.hog_captures.specs.Frames.{find_local, find_up, with_local}
 use Rattle.hog_meaning.specs.World.{World, Env, find_var, declare, write_var}
-use Rattle.vm_frames.specs.State.{Upvalue, Opened, Closed, Frame, State}
-use Rattle.vm_frames.specs.Stack.{with_value, one_on}
+use Rattle.vm_course.specs.State.{Upvalue, Opened, Closed, Frame, State}
+use Rattle.vm_course.specs.Stack.{with_value, one_on}
 use Rattle.hog_bridge.proofs.Words.{In, Tells, word_tells}
 use Rattle.hog_bridge.proofs.Places.{Seat, Temp, Var, read, shown_seat, seat_at, place_of, up_of, up_of_place, stack_of, ups_of, owner_of, Distinct, length-stack, placed, temps}
 use Rattle.hog_bridge.proofs.Picture.{Given, Ghost, Landing, pic, Owned, Kept, SeesWord, Sees}

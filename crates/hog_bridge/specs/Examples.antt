@@ -7,8 +7,8 @@ use Rattle.hog_tree.specs.Plain.{Stms}
 use Rattle.hog_compiler.specs.Code.{code_of}
 use Rattle.hog_meaning.specs.Program.{meaning, outcome}
 use Rattle.hog_meaning.specs.World.{World, Reply, Got, Gives, Throws, Waits, Spends}
-use Rattle.vm_frames.specs.State.{Running, State}
-use Rattle.vm_frames.specs.Course.{machine, IsOver, shown_by}
+use Rattle.vm_course.specs.State.{Running, State}
+use Rattle.vm_course.specs.Course.{machine, IsOver, shown_by}
 
 -- the world after an evaluation
 abbrev pub world_after : {A : Type 0} → Got A → World

@@ -10,8 +10,8 @@ use Rattle.hog_ops.specs.Plain.{Op, Ops, NoOp, MoreOp, Callable}
 use Rattle.hog_compiler.specs.Code.{code_of}
 use Rattle.hog_meaning.specs.World.{Reply, World, Got, Gives, Throws, Waits, Spends, Flow}
 use Rattle.hog_meaning.specs.Program.{outcome, meaning}
-use Rattle.vm_frames.specs.State.{State, Waiting, Ended}
-use Rattle.vm_frames.specs.Course.{machine, IsOver, IsDefined}
+use Rattle.vm_course.specs.State.{State, Waiting, Ended}
+use Rattle.vm_course.specs.Course.{machine, IsOver, IsDefined}
 use Rattle.hog_bridge.specs.Steady.{StmsSteady}
 
 -- how many operations a code has, those of its bodies too

@@ -5,7 +5,7 @@ use Rattle.hog_tree.specs.Plain.{Stms}
 use Rattle.hog_compiler.specs.Code.{code_of}
 use Rattle.hog_meaning.specs.World.{Reply}
 use Rattle.hog_meaning.specs.Program.{meaning, outcome}
-use Rattle.vm_frames.specs.Course.{machine, IsOver, IsDefined}
+use Rattle.vm_course.specs.Course.{machine, IsOver, IsDefined}
 use Rattle.hog_bridge.specs.Laws.{IsOnMeaning, IsNamed, CourseIsMeaning, CourseIsBounded, CourseRests, operations}
 use Rattle.hog_program.specs.Build.{IsBuilt}
 use Rattle.hog_program.specs.Course.{IsShown, OneMeaning, CourseShowsMeaning, CourseIsShort}

@@ -6,8 +6,8 @@ use Rattle.hog_tree.specs.Plain.{Stms}
 use Rattle.hog_ops.specs.Plain.{Ops}
 use Rattle.hog_meaning.specs.World.{Reply, Got, Flow}
 use Rattle.hog_meaning.specs.Program.{shows, outcome}
-use Rattle.vm_frames.specs.State.{State, Waiting, Ended}
-use Rattle.vm_frames.specs.Course.{machine, IsOver, IsDefined}
+use Rattle.vm_course.specs.State.{State, Waiting, Ended}
+use Rattle.vm_course.specs.Course.{machine, IsOver, IsDefined}
 use Rattle.hog_bridge.specs.Laws.{WaitsAlike, operations}
 use Rattle.hog_program.specs.Build.{IsBuilt}
 use Rattle.hog_program.specs.Program.{HasCode}

@@ -8,8 +8,8 @@ use Rattle.hog_printer.specs.Print.{printed}
 use Rattle.hog_compiler.specs.Code.{code_of}
 use Rattle.bytecode_json.specs.Text.{code_text}
 use Rattle.hog_json.specs.Lines.{ended}
-use Rattle.hogvm.specs.Meaning.{meaning}
-use Rattle.hogvm.specs.Sums.{IsSums}
+use Rattle.hog_sums.specs.Meaning.{meaning}
+use Rattle.hog_sums.specs.Sums.{IsSums}
 use Rattle.cyclotron_jobs.specs.declared.row.Row.{Row}
 use Rattle.cyclotron_jobs.specs.declared.entry.Entry.{Entry}
 use Rattle.script_reader.specs.Script.{IsNoScript, IsScript}

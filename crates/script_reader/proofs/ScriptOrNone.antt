@@ -5,7 +5,7 @@ use Rattle.serde_json.specs.Data.{Data}
 use Rattle.hog_tree.specs.Plain.{Stms}
 use Rattle.hog_program.specs.Build.{IsBuilt, IsUnbuilt}
 use Rattle.hog_program.specs.declared.stop.BuildStop.{BuildStop}
-use Rattle.hogvm.specs.Sums.{IsSums}
+use Rattle.hog_sums.specs.Sums.{IsSums}
 use Rattle.script_reader.specs.Elements.{elements_of, step_of}
 use Rattle.script_reader.specs.Steps.{Builds}
 use Rattle.script_reader.specs.Script.{BuildFails, IsNoScript, IsOther, IsScript, IsStepOf, NoScriptIn, NoStepsIn, ScriptIn, StopsIn}

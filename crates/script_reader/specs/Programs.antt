@@ -6,7 +6,7 @@ use Rattle.std.specs.Prelude.{Some}
 use Rattle.hog_tree.specs.Plain.{Stms}
 use Rattle.hog_json.specs.Nulled.{nulled, nulled_text}
 use Rattle.hog_program.specs.Build.{IsBuilt}
-use Rattle.hogvm.specs.Sums.{IsSums}
+use Rattle.hog_sums.specs.Sums.{IsSums}
 use Rattle.cyclotron_jobs.specs.declared.input.JobInput.{JobInput}
 use Rattle.cyclotron_jobs.specs.declared.input.Reply.{Reply}
 use Rattle.cyclotron_jobs.specs.declared.input.Answers.{Answers}

@@ -6,7 +6,7 @@ use Rattle.serde_json.specs.Data.{Data}
 use Rattle.serde_json.specs.Read.{read}
 use Rattle.hog_tree.specs.Plain.{Stms}
 use Rattle.hog_program.specs.Build.{IsBuilt, IsUnbuilt}
-use Rattle.hogvm.specs.Sums.{IsSums}
+use Rattle.hog_sums.specs.Sums.{IsSums}
 use Rattle.script_reader.specs.Elements.{elements_of, step_of}
 use Rattle.script_reader.specs.Steps.{Builds}
 use Rattle.script_reader.specs.declared.step.Step.{Step}

@@ -9,7 +9,7 @@ ghost use Rattle.script_reader.specs.Steps.{Builds};
 use crate::step::{SourceStop, Step};
 use hog_program::{BuildStop, read_whole};
 use hog_value::HogText;
-use hogvm::sums::is_sums;
+use hog_sums::sums::is_sums;
 use std::alloc::{AllocError, Global};
 
 /// Why a source is not taken, if it isn't.

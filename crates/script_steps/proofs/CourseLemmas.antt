@@ -5,12 +5,12 @@ use Rattle.hog_tree.specs.Plain.{Stms}
 use Rattle.hog_value.specs.declared.trace.End.{End}
 use Rattle.hog_value.specs.declared.trace.Request.{Request}
 use Rattle.hog_value.specs.declared.trace.Shown.{Shown}
-use Rattle.hogvm.specs.Code.{program_code}
-use Rattle.hogvm.specs.Law.{course, IsPrefix, ShowsTheMeaning}
-use Rattle.hogvm.specs.Machine.{Mode, Running, Ended, State, shown_at, end_of, Run}
-use Rattle.hogvm.specs.Meaning.{meaning}
-use Rattle.hogvm.proofs.Course.{still_runs, any_end}
-use Rattle.hogvm.specs.Sums.{IsSums}
+use Rattle.hog_sums.specs.Code.{program_code}
+use Rattle.hog_sums.specs.Law.{course, IsPrefix, ShowsTheMeaning}
+use Rattle.hog_sums.specs.Machine.{Mode, Running, Ended, State, shown_at, end_of, Run}
+use Rattle.hog_sums.specs.Meaning.{meaning}
+use Rattle.hog_sums.proofs.Course.{still_runs, any_end}
+use Rattle.hog_sums.specs.Sums.{IsSums}
 use Rattle.cyclotron_jobs.specs.Course.{after_of, AsksOn}
 use Rattle.cyclotron_jobs.specs.declared.row.After.{After}
 use Rattle.cyclotron_jobs.specs.declared.row.After.TheVariants.{Hog, Fetch, Finished}

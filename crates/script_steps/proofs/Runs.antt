@@ -3,10 +3,10 @@ use Rattle.std.proofs.Common.{◌≡◌, ℕ, zero, suc, ◌+◌, ◌-◌, ◌<�
 use Rattle.std.proofs.Math.Nat.{min-le_left, le-min}
 use Rattle.std.proofs.lemmas.Bool.{cases_lt}
 use Rattle.hog_tree.specs.Plain.{Stms}
-use Rattle.hogvm.specs.Code.{Op, program_code}
-use Rattle.hogvm.specs.Law.{course}
-use Rattle.hogvm.specs.Machine.{Mode, Running, Ended, State, start, step, steps, state_after, count_on, operations_done, end_of, Run, after_run}
-use Rattle.hogvm.proofs.Steps.{steps-add, end_stays}
+use Rattle.hog_sums.specs.Code.{Op, program_code}
+use Rattle.hog_sums.specs.Law.{course}
+use Rattle.hog_sums.specs.Machine.{Mode, Running, Ended, State, start, step, steps, state_after, count_on, operations_done, end_of, Run, after_run}
+use Rattle.hog_sums.proofs.Steps.{steps-add, end_stays}
 use Rattle.cyclotron_jobs.specs.declared.row.After.{After}
 use Rattle.cyclotron_jobs.specs.declared.row.After.TheVariants.{Hog, Finished}
 use Rattle.script_steps.specs.Course.{after_mode, after_end, IsReached, IsMachineAt, IsSlice}

@@ -3,9 +3,9 @@ use Rattle.std.specs.Prelude.{◌≡◌, ◌≢◌, ℕ, ◌+◌, ◌<◌, ◌�
 use Rattle.hog_tree.specs.Plain.{Stms}
 use Rattle.hog_value.specs.declared.trace.Shown.{Shown}
 use Rattle.hog_value.specs.declared.trace.End.{End}
-use Rattle.hogvm.specs.Law.{IsPrefix, course}
-use Rattle.hogvm.specs.Machine as machine
-use Rattle.hogvm.specs.Meaning.{meaning}
+use Rattle.hog_sums.specs.Law.{IsPrefix, course}
+use Rattle.hog_sums.specs.Machine as machine
+use Rattle.hog_sums.specs.Meaning.{meaning}
 use Rattle.cyclotron_jobs.specs.declared.input.JobInput.{JobInput}
 use Rattle.cyclotron_jobs.specs.declared.input.Reply.{Reply}
 use Rattle.cyclotron_jobs.specs.declared.row.After.{After}

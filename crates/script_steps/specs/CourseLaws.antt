@@ -2,8 +2,8 @@
 use Rattle.std.specs.Prelude.{◌≡◌, ◌≢◌, ℕ, ◌<◌, List, [], ◌∷◌, ◌++◌, length, refl}
 use Rattle.std.proofs.Common.{sym, ◌∙◌, arith}
 use Rattle.hog_value.specs.declared.trace.Shown.{Shown}
-use Rattle.hogvm.specs.Machine.{Mode, Running, Ended}
-use Rattle.hogvm.specs.Law.{course}
+use Rattle.hog_sums.specs.Machine.{Mode, Running, Ended}
+use Rattle.hog_sums.specs.Law.{course}
 use Rattle.cyclotron_jobs.specs.declared.input.JobInput.{JobInput}
 use Rattle.cyclotron_jobs.specs.declared.input.Reply.{Reply}
 use Rattle.cyclotron_jobs.specs.declared.row.After.{After}

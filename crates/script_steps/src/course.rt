@@ -36,7 +36,7 @@ impl Course for HogCourse {
 pub fn rows_agree()
     ensures { (row : Row) → IsOnCourse IsCourse row → AsksOn row.queue row.asks → AgreesWithMeaning row }
 {
-    hogvm::law::runs_show_the_meaning();
+    hog_sums::law::runs_show_the_meaning();
 }
 
 /// What holds of a queue that began empty, whatever calls were made.

@@ -3,8 +3,8 @@
 ghost use Rattle.std.specs.Prelude.{◌≡◌, ◌≤◌, IfOk};
 ghost use Rattle.hog_tree.specs.Plain.{Stms};
 ghost use Rattle.hog_tree.specs.View.{tree_of};
-ghost use Rattle.hogvm.specs.Code.{program_code};
-ghost use Rattle.hogvm.specs.Sums.{IsSums};
+ghost use Rattle.hog_sums.specs.Code.{program_code};
+ghost use Rattle.hog_sums.specs.Sums.{IsSums};
 ghost use Rattle.script_steps.specs.Course.{after_end, IsMachineAt, IsWork};
 ghost use Rattle.script_reader.specs.Programs.{IsSumsOf};
 
@@ -17,9 +17,9 @@ use hog_tree::tree::Tree;
 use hog_value::items::Bytes;
 use hog_value::text::HogText;
 use hog_value::trace::Shown;
-use hogvm::code::Code;
-use hogvm::compile::compile;
-use hogvm::machine::{Machine, Pause};
+use hog_sums::code::Code;
+use hog_sums::compile::compile;
+use hog_sums::machine::{Machine, Pause};
 use std::alloc::{AllocError, Global};
 use std::marker::PhantomData;
 

@@ -12,10 +12,10 @@ use Rattle.hog_library.specs.declared.call.CallStop.{CallStop}
 use Rattle.hog_library.specs.declared.call.CallStop.TheVariants as call
 use Rattle.hog_library.specs.Called.{Called, TurnsSpent, UnitsSpent}
 use Rattle.hog_library.specs.Answers.{answered, Keeps}
-use Rattle.vm_frames.specs.State.{State, Waiting}
-use Rattle.vm_frames.specs.Stack.{keep}
-use Rattle.vm_frames.specs.Throws.{with_heap, throw_kind}
-use Rattle.vm_frames.specs.Step.{on_with, on_and_push, said, spent_by, with_spent, of_native}
+use Rattle.vm_course.specs.State.{State, Waiting}
+use Rattle.vm_course.specs.Stack.{keep}
+use Rattle.vm_course.specs.Throws.{with_heap, throw_kind}
+use Rattle.vm_course.specs.Step.{on_with, on_and_push, said, spent_by, with_spent, of_native}
 use Rattle.vm_frames.specs.Here.{here_of, answer_taken, IsCallStopped}
 
 module _ (s : State) (b rest : ℕ) where

@@ -10,8 +10,8 @@ use Rattle.std.specs.BTreeMap.{BTreeMap, get, is_at}
 use Rattle.hog_value.specs.Values.{Val}
 use Rattle.vm_frames.specs.declared.upvalues.Upvalue as u
 use Rattle.vm_frames.specs.declared.upvalues.Upvalue.TheVariants as up
-use Rattle.vm_frames.specs.State.{Upvalue, Opened, Closed}
-use Rattle.vm_frames.specs.Stack.{close, value_at, or_null}
+use Rattle.vm_course.specs.State.{Upvalue, Opened, Closed}
+use Rattle.vm_course.specs.Stack.{close, value_at, or_null}
 use Rattle.vm_frames.specs.Views.{upvalue_of, IsIndexed}
 
 module _ (height : ℕ) (stack : List Val) where

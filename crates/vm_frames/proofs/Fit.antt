@@ -8,8 +8,8 @@ use Rattle.std.proofs.lemmas.Option.{none-some}
 use Rattle.std.specs.Prelude.{slice_get, option_map}
 use Rattle.vm_frames.specs.declared.upvalues.Upvalue as u
 use Rattle.vm_frames.specs.Views.{upvalue_of}
-use Rattle.vm_frames.specs.State.{Upvalue, Opened, Closed}
-use Rattle.vm_frames.specs.Stack.{close, value_at, with_value, or_null}
+use Rattle.vm_course.specs.State.{Upvalue, Opened, Closed}
+use Rattle.vm_course.specs.Stack.{close, value_at, with_value, or_null}
 use Rattle.vm_frames.specs.Here.{ClosedBelow}
 use Rattle.vm_frames.proofs.Lists.{names-value_at}
 

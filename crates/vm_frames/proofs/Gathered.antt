@@ -6,7 +6,7 @@ use Rattle.hog_value.specs.declared.value.Stop.TheVariants as made
 use Rattle.hog_value.specs.declared.value.SetStop.TheVariants as stop
 use Rattle.hog_value.specs.Values.{Val}
 use Rattle.hog_operators.specs.Pairs.{in_turn}
-use Rattle.vm_frames.specs.Step.{in_pairs}
+use Rattle.vm_course.specs.Step.{in_pairs}
 use Rattle.vm_frames.specs.Here.{set_stop}
 
 pub pairs_same : (vs : List Val) → in_turn vs ≡ in_pairs vs

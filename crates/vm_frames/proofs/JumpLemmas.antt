@@ -9,10 +9,10 @@ use Rattle.hog_value.specs.declared.value.Kind.{Kind}
 use Rattle.hog_value.specs.declared.value.SetStop.{SetStop}
 use Rattle.hog_value.specs.declared.value.SetStop.TheVariants as stop
 use Rattle.hog_value.specs.Operations.{Outcome, Throws, Spends}
-use Rattle.vm_frames.specs.State.{State}
-use Rattle.vm_frames.specs.Throws.{ends, on_outcome}
+use Rattle.vm_course.specs.State.{State}
+use Rattle.vm_course.specs.Throws.{ends, on_outcome}
 use Rattle.vm_frames.specs.Here.{IsStopped}
-use Rattle.vm_frames.specs.Step.{Here, jump, jump_or_back}
+use Rattle.vm_course.specs.Step.{Here, jump, jump_or_back}
 
 module _ (here : Here) (s : State) where
   pub forward : (d : ℤ) → int_le (pos 0) d ≡ true → jump here d s ≡ jump_or_back here d s

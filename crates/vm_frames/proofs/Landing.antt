@@ -2,9 +2,9 @@
 use Rattle.std.proofs.Common.{◌≡◌, ◌≤◌, ◌<◌, ◌-◌, ℕ, List, [], ◌∷◌, Option, Some, length, drop, min, arith, refl, ap, ap₂, sym, subst, ◌∙◌, length-drop}
 use Rattle.std.specs.Prelude.{Result, Ok, Err, OnOk}
 use Rattle.hog_value.specs.Values.{Val}
-use Rattle.vm_frames.specs.State.{Frame, ThrowFrame, State}
-use Rattle.vm_frames.specs.Stack.{keep, cut_to, push}
-use Rattle.vm_frames.specs.Throws.{goto, caught, throw_to}
+use Rattle.vm_course.specs.State.{Frame, ThrowFrame, State}
+use Rattle.vm_course.specs.Stack.{keep, cut_to, push}
+use Rattle.vm_course.specs.Throws.{goto, caught, throw_to}
 use Rattle.vm_frames.specs.Here.{innermost, others_of, first_of}
 
 -- what a call gives where it has gone well, from what another does

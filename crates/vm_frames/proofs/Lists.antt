@@ -10,7 +10,7 @@ use Rattle.std.specs.Prelude.{reverse, slice_get, slice_set, nat_lt, ◌==◌, I
 use Rattle.hog_value.specs.Values.{Val, NamesBelow}
 use Rattle.hog_value.specs.declared.value.Value.TheVariants.{Null}
 use Rattle.vm_frames.specs.Here.{first_of}
-use Rattle.vm_frames.specs.Stack.{value_at, with_value, keep, top_of}
+use Rattle.vm_course.specs.Stack.{value_at, with_value, keep, top_of}
 
 same_suc : (n k : ℕ) → (suc n == suc k) ≡ (n == k)
 same_suc n k = grind (arith, nat_tests)

@@ -7,9 +7,9 @@ use Rattle.hog_value.specs.Values.{Val}
 use Rattle.hog_json.specs.Texts.{named_text}
 use Rattle.hog_meaning.specs.Operators.{accessed}
 use Rattle.hog_meaning.specs.World.{Fixed}
-use Rattle.vm_frames.specs.State.{State}
-use Rattle.vm_frames.specs.Throws.{on_result}
-use Rattle.vm_frames.specs.Step.{Here, on_and_push, global_of, property_path, get_global}
+use Rattle.vm_course.specs.State.{State}
+use Rattle.vm_course.specs.Throws.{on_result}
+use Rattle.vm_course.specs.Step.{Here, on_and_push, global_of, property_path, get_global}
 
 pub path_more : (s : State) (v : Val) (keys : List Val) (i : ℕ) → i < length keys
     → property_path (Ok v) (drop i keys) s ≡ property_path (accessed s.heap v (get_or keys i Null)) (drop (i + 1) keys) s

@@ -4,8 +4,8 @@ use Rattle.std.proofs.Common.{cond}
 use Rattle.hog_value.specs.declared.value.Value.TheVariants.{Null, Bool as Truth, Int, Ref}
 use Rattle.hog_meaning.specs.Meaning.{is_null}
 use Rattle.hog_value.specs.Values.{Val}
-use Rattle.vm_frames.specs.State.{State}
-use Rattle.vm_frames.specs.Stack.{keep, floor_of, top_of}
+use Rattle.vm_course.specs.State.{State}
+use Rattle.vm_course.specs.Stack.{keep, floor_of, top_of}
 use Rattle.vm_frames.specs.Here.{innermost, here_of}
 use Rattle.vm_frames.proofs.Lists.{keep-all}
 

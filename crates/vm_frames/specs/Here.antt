@@ -15,10 +15,10 @@ use Rattle.hog_library.specs.declared.call.CallStop.{CallStop}
 use Rattle.hog_library.specs.declared.call.CallStop.TheVariants as call
 use Rattle.hog_ops.specs.Plain.{Op, GetGlobal}
 use Rattle.hog_meaning.specs.World.{Fixed}
-use Rattle.vm_frames.specs.State.{Slot, Upvalue, Opened, Closed, Frame, Waiting, State}
-use Rattle.vm_frames.specs.Stack.{keep, floor_of}
-use Rattle.vm_frames.specs.Throws.{ends, throw_kind}
-use Rattle.vm_frames.specs.Step.{Here, here_at, on_with, on_and_push, said, act}
+use Rattle.vm_course.specs.State.{Slot, Upvalue, Opened, Closed, Frame, Waiting, State}
+use Rattle.vm_course.specs.Stack.{keep, floor_of}
+use Rattle.vm_course.specs.Throws.{ends, throw_kind}
+use Rattle.vm_course.specs.Step.{Here, here_at, on_with, on_and_push, said, act}
 
 -- the first of a list, and the others
 abbrev pub first_of : {A : Type 0} → List A → Option A

@@ -1,9 +1,3 @@
-pub mod State
-pub mod Stack
-pub mod Throws
-pub mod Step
 pub mod Views
 pub mod Here
 pub mod Seen
-pub mod Course
-pub mod Examples

@@ -3,7 +3,7 @@ use Rattle.std.specs.Prelude.{[], ◌∷◌}
 use Rattle.vm_frames.specs.declared.machine.Machine.TheInside.{Inside}
 use Rattle.vm_frames.specs.declared.machine.Mode as m
 use Rattle.vm_frames.specs.declared.machine.Mode.TheVariants as mode
-use Rattle.vm_frames.specs.State.{Running, Waiting, Ended, Mode, State}
+use Rattle.vm_course.specs.State.{Running, Waiting, Ended, Mode, State}
 
 abbrev pub mode_of : m.Mode → Mode
 mode_of mode.Running = Running

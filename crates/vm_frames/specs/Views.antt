@@ -5,7 +5,7 @@ use Rattle.std.specs.BTreeMap.{BTreeMap, get}
 use Rattle.hog_value.specs.declared.trace.End.{End}
 use Rattle.vm_frames.specs.declared.upvalues.Upvalue as u
 use Rattle.vm_frames.specs.declared.upvalues.Upvalue.TheVariants as up
-use Rattle.vm_frames.specs.State.{Upvalue, Opened, Closed}
+use Rattle.vm_course.specs.State.{Upvalue, Opened, Closed}
 
 abbrev pub upvalue_of : u.Upvalue → Upvalue
 upvalue_of (up.Opened p) = Opened p

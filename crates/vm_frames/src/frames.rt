@@ -1,7 +1,7 @@
 //! The calls that a machine is in.
 
 ghost use Rattle.std.specs.Prelude.{◌≡◌, ◌≤◌, ◌<◌, [], ◌∷◌, length, OnOk, OnErr};
-ghost use Rattle.vm_frames.specs.Stack.{keep};
+ghost use Rattle.vm_course.specs.Stack.{keep};
 ghost use Rattle.vm_frames.specs.Here.{first_of, others_of};
 
 use std::alloc::{AllocError, Global};
@@ -16,7 +16,7 @@ pub(crate) struct Frame {
 }
 
 impl Model for Frame {
-    ghost use Rattle.vm_frames.specs.State.{Frame};
+    ghost use Rattle.vm_course.specs.State.{Frame};
 
     ghost Value = { Frame };
 
@@ -33,7 +33,7 @@ pub(crate) struct Frames {
 
 impl Model for Frames {
     ghost use Rattle.std.specs.Prelude.{List, ◌≤◌, length, reverse};
-    ghost use Rattle.vm_frames.specs.State.{Frame};
+    ghost use Rattle.vm_course.specs.State.{Frame};
 
     ghost Value = { List Frame };
 

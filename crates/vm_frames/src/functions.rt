@@ -4,10 +4,10 @@ ghost use Rattle.std.specs.Prelude.{◌≡◌, ℕ, [], Some, length, OnOk, slic
 ghost use Rattle.hog_value.specs.declared.trace.End.TheVariants.{Done as EndsDone};
 ghost use Rattle.hog_value.specs.Values.{NamesBelow};
 ghost use Rattle.hog_ops.specs.Plain as o;
-ghost use Rattle.vm_frames.specs.State.{function_at};
-ghost use Rattle.vm_frames.specs.Stack.{captured_by, captured_in, upvalue_of, upvalue_value, write_numbered, cut_to};
-ghost use Rattle.vm_frames.specs.Throws.{ends_shown};
-ghost use Rattle.vm_frames.specs.Step.{give_back};
+ghost use Rattle.vm_course.specs.State.{function_at};
+ghost use Rattle.vm_course.specs.Stack.{captured_by, captured_in, upvalue_of, upvalue_value, write_numbered, cut_to};
+ghost use Rattle.vm_course.specs.Throws.{ends_shown};
+ghost use Rattle.vm_course.specs.Step.{give_back};
 ghost use Rattle.vm_frames.specs.Here.{here_of, innermost, others_of, ClosedBelow, Does};
 ghost use Rattle.vm_frames.specs.Views.{upvalue_of as view_of};
 

@@ -6,8 +6,8 @@ ghost use Rattle.hog_value.specs.Values.{NamesBelow};
 ghost use Rattle.hog_value.specs.Operations.{truth_of};
 ghost use Rattle.hog_ops.specs.Plain as o;
 ghost use Rattle.hog_meaning.specs.World.{Fixed};
-ghost use Rattle.vm_frames.specs.State.{Slot};
-ghost use Rattle.vm_frames.specs.Step.{act, property_path};
+ghost use Rattle.vm_course.specs.State.{Slot};
+ghost use Rattle.vm_course.specs.Step.{act, property_path};
 ghost use Rattle.vm_frames.specs.Here.{here_of, Does, set_stop};
 
 use crate::machine::Machine;

@@ -5,7 +5,7 @@ ghost use Rattle.hog_value.specs.Values.{NamesBelow};
 ghost use Rattle.hog_json.specs.Texts.{named_text};
 ghost use Rattle.hog_meaning.specs.World.{Fixed};
 ghost use Rattle.hog_meaning.specs.Operators.{accessed};
-ghost use Rattle.vm_frames.specs.Step.{global_of, property_path};
+ghost use Rattle.vm_course.specs.Step.{global_of, property_path};
 ghost use Rattle.vm_frames.specs.Here.{ReadsGlobal};
 
 use crate::machine::Machine;

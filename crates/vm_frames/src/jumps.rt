@@ -2,8 +2,8 @@
 
 ghost use Rattle.std.specs.Prelude.{◌≡◌, ◌<◌, ◌≤◌, ◌^◌, pos, ◌≤ℤ◌, length, OnOk};
 ghost use Rattle.hog_ops.specs.Plain as o;
-ghost use Rattle.vm_frames.specs.Stack.{keep};
-ghost use Rattle.vm_frames.specs.Step.{place_at, jump, jump_or_back};
+ghost use Rattle.vm_course.specs.Stack.{keep};
+ghost use Rattle.vm_course.specs.Step.{place_at, jump, jump_or_back};
 ghost use Rattle.vm_frames.specs.Here.{here_of, Does};
 
 use crate::machine::Machine;

@@ -4,9 +4,9 @@ ghost use Rattle.std.specs.Prelude.{◌≡◌, ◌↔◌, ◌+◌, ◌≤◌, �
 ghost use Rattle.std.specs.Bool.{OnTrue, OnFalse};
 ghost use Rattle.hog_value.specs.Meters.{max_turns};
 ghost use Rattle.hog_value.specs.Values.{NamesBelow};
-ghost use Rattle.vm_frames.specs.Stack.{value_at, with_value, or_null, keep, cut_to, push, top_of, taken, floor_of};
-ghost use Rattle.vm_frames.specs.Throws.{ends, ends_shown, goto, throw_value, throw_kind};
-ghost use Rattle.vm_frames.specs.Step.{on_with, on_and_push};
+ghost use Rattle.vm_course.specs.Stack.{value_at, with_value, or_null, keep, cut_to, push, top_of, taken, floor_of};
+ghost use Rattle.vm_course.specs.Throws.{ends, ends_shown, goto, throw_value, throw_kind};
+ghost use Rattle.vm_course.specs.Step.{on_with, on_and_push};
 ghost use Rattle.vm_frames.specs.Here.{here_of, innermost, others_of};
 
 use crate::frames::{Frame, Frames};
@@ -40,7 +40,7 @@ pub struct Machine {
 }
 
 impl Model for Machine {
-    ghost use Rattle.vm_frames.specs.State.{State};
+    ghost use Rattle.vm_course.specs.State.{State};
 
     ghost Value = { State };
 

@@ -5,7 +5,7 @@ ghost use Rattle.hog_value.specs.Natives.{takes_of};
 ghost use Rattle.hog_library.specs.Answers.{AnswerNames};
 ghost use Rattle.hog_ops.specs.Plain as o;
 ghost use Rattle.hog_meaning.specs.Meaning.{is_request, is_fetch, most_requests};
-ghost use Rattle.vm_frames.specs.Step.{spent_by, take_reply, said};
+ghost use Rattle.vm_course.specs.Step.{spent_by, take_reply, said};
 ghost use Rattle.vm_frames.specs.Here.{Does, answer_taken, IsCallStopped};
 
 use crate::gathers::set_stop;

@@ -2,7 +2,7 @@
 
 ghost use Rattle.std.specs.Prelude.{◌≡◌, ◌<◌, ◌≤◌, ◌^◌, ℕ, [], ◌∷◌, All, length, min, reverse, IfOk, IfSome, OnOk, OnErr};
 ghost use Rattle.hog_value.specs.Values.{NamesBelow};
-ghost use Rattle.vm_frames.specs.Stack.{value_at, with_value, keep, top_of, taken};
+ghost use Rattle.vm_course.specs.Stack.{value_at, with_value, keep, top_of, taken};
 
 use hog_value::Value;
 use std::alloc::{AllocError, Global};

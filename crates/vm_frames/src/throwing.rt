@@ -6,8 +6,8 @@ ghost use Rattle.hog_value.specs.Values.{NamesBelow};
 ghost use Rattle.hog_value.specs.Meters.{max_units};
 ghost use Rattle.hog_value.specs.Cells.{IsClosed};
 ghost use Rattle.hog_json.specs.Texts.{shown};
-ghost use Rattle.vm_frames.specs.Stack.{keep};
-ghost use Rattle.vm_frames.specs.Throws.{ends_shown, with_heap, throw_to, throw_value, throw_kind};
+ghost use Rattle.vm_course.specs.Stack.{keep};
+ghost use Rattle.vm_course.specs.Throws.{ends_shown, with_heap, throw_to, throw_value, throw_kind};
 ghost use Rattle.vm_frames.specs.Here.{IsFit};
 
 use crate::machine::Machine;

@@ -1,9 +1,9 @@
 //! Where throws land.
 
 ghost use Rattle.std.specs.Prelude.{◌≡◌, [], ◌∷◌, OnOk, OnErr};
-ghost use Rattle.vm_frames.specs.Stack.{height_of};
+ghost use Rattle.vm_course.specs.Stack.{height_of};
 ghost use Rattle.vm_frames.specs.Here.{first_of, others_of};
-ghost use Rattle.vm_frames.specs.Step.{throws_around, without_try};
+ghost use Rattle.vm_course.specs.Step.{throws_around, without_try};
 
 use std::alloc::{AllocError, Global};
 use std::marker::Model;
@@ -17,7 +17,7 @@ pub(crate) struct ThrowFrame {
 }
 
 impl Model for ThrowFrame {
-    ghost use Rattle.vm_frames.specs.State.{ThrowFrame};
+    ghost use Rattle.vm_course.specs.State.{ThrowFrame};
 
     ghost Value = { ThrowFrame };
 
@@ -34,7 +34,7 @@ pub(crate) struct Throws {
 
 impl Model for Throws {
     ghost use Rattle.std.specs.Prelude.{List, reverse};
-    ghost use Rattle.vm_frames.specs.State.{ThrowFrame};
+    ghost use Rattle.vm_course.specs.State.{ThrowFrame};
 
     ghost Value = { List ThrowFrame };
 

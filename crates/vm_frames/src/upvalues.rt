@@ -4,9 +4,9 @@ ghost use Rattle.std.specs.Prelude.{◌≡◌, ◌<◌, ◌≤◌, ℕ, [], All,
 ghost use Rattle.std.specs.BTreeMap.{get, Updates, IsUnchanged, btree_map_len};
 ghost use Rattle.std.specs.Ordering.{nat_cmp};
 ghost use Rattle.hog_value.specs.Values.{Val};
-ghost use Rattle.vm_frames.specs.State.{Frame as FrameView, Closed as Shut};
+ghost use Rattle.vm_course.specs.State.{Frame as FrameView, Closed as Shut};
 ghost use Rattle.vm_frames.specs.Here.{ClosedBelow};
-ghost use Rattle.vm_frames.specs.Stack.{close, find_open, or_opened, or_closed, capture_one, capture_all};
+ghost use Rattle.vm_course.specs.Stack.{close, find_open, or_opened, or_closed, capture_one, capture_all};
 ghost use Rattle.vm_frames.specs.Views.{upvalue_of};
 
 use crate::frames::Frame;
@@ -34,7 +34,7 @@ pub(crate) struct Upvalues {
 
 impl Model for Upvalues {
     ghost use Rattle.std.specs.Prelude.{List, map};
-    ghost use Rattle.vm_frames.specs.State.{Upvalue as UpvalueView};
+    ghost use Rattle.vm_course.specs.State.{Upvalue as UpvalueView};
 
     ghost Value = { List UpvalueView };
 

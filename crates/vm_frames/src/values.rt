@@ -4,10 +4,10 @@ ghost use Rattle.std.specs.Prelude.{◌≡◌, ◌<◌, ◌≤◌, ◌∷◌, �
 ghost use Rattle.hog_value.specs.Values.{Val, NamesBelow};
 ghost use Rattle.hog_ops.specs.Plain as o;
 ghost use Rattle.hog_meaning.specs.World.{Fixed};
-ghost use Rattle.vm_frames.specs.Stack.{keep};
-ghost use Rattle.vm_frames.specs.State.{Slot};
-ghost use Rattle.vm_frames.specs.Throws.{on_result};
-ghost use Rattle.vm_frames.specs.Step.{on_and_push, binary, act};
+ghost use Rattle.vm_course.specs.Stack.{keep};
+ghost use Rattle.vm_course.specs.State.{Slot};
+ghost use Rattle.vm_course.specs.Throws.{on_result};
+ghost use Rattle.vm_course.specs.Step.{on_and_push, binary, act};
 ghost use Rattle.vm_frames.specs.Here.{here_of, Does, IsStopped};
 
 use crate::machine::Machine;

@@ -10,8 +10,9 @@ use Rattle.state_forms.specs.Shown.{item_in, item_data}
 use Rattle.state_forms.proofs.Lists.{list_in-list, list_by_back, all_push}
 use Rattle.state_forms.proofs.Back.{u32_back, value_back, cell_back}
 use Rattle.state_forms.proofs.ShownBack.{maybe_back, item_back}
-use Rattle.vm_frames.specs.State.{Upvalue, Opened, Closed, Frame, ThrowFrame, Running, Waiting, Ended, Mode, State}
-use Rattle.vm_state.specs.Saved.{Saved, Format, First, Second, Written, requests_in}
+use Rattle.vm_course.specs.State.{Upvalue, Opened, Closed, Frame, ThrowFrame, Running, Waiting, Ended, Mode, State}
+use Rattle.vm_course.specs.Run.{RunState}
+use Rattle.vm_state.specs.Saved.{Format, First, Second, Written, requests_in}
 use Rattle.vm_state.specs.Layout.{frame_in, frame_data, throw_in, throw_data, upvalue_in, upvalue_data, mode_in, mode_data, Counts, counts_in, Calls, calls_in, Held, held_in, rest_in, rest_data, written_in, written_in_list, elements_of, saved_data}
 use Rattle.vm_state.specs.Laws.{FrameFits, ThrowFits, UpvalueFits, SavedFits}
 
@@ -39,17 +40,17 @@ mode_back (Ended end.MemorySpent) = refl
 mode_back (Ended end.TooDeep) = refl
 mode_back (Ended end.TooManyFetches) = refl
 
-abbrev counts_of : Saved → Counts
+abbrev counts_of : RunState → Counts
 counts_of m = record { ops = m.ops; turns = m.state.turns; units = m.state.units; used = m.used }
 
-counts_back : (m : Saved) → SavedFits m → counts_in (number_data m.ops) (number_data m.state.turns) (number_data m.state.units) (number_data m.used) ≡ Some (counts_of m)
+counts_back : (m : RunState) → SavedFits m → counts_in (number_data m.ops) (number_data m.state.turns) (number_data m.state.units) (number_data m.used) ≡ Some (counts_of m)
 unfolding counts_in
 counts_back m h = rw (u32_back m.state.turns h.turns, u32_back m.state.units h.units) refl
 
 abbrev calls_of : State → Calls
 calls_of s = record { stack = reverse s.stack; frames = reverse s.frames; throws = reverse s.throws }
 
-calls_back : (m : Saved) → SavedFits m → calls_in (list (map value_data (reverse m.state.stack))) (list (map frame_data (reverse m.state.frames))) (list (map throw_data (reverse m.state.throws))) ≡ Some (calls_of m.state)
+calls_back : (m : RunState) → SavedFits m → calls_in (list (map value_data (reverse m.state.stack))) (list (map frame_data (reverse m.state.frames))) (list (map throw_data (reverse m.state.throws))) ≡ Some (calls_of m.state)
 unfolding calls_in
 calls_back m h =
     rw (
@@ -65,7 +66,7 @@ all_any (x ∷ xs) = (tt, all_any xs)
 abbrev held_of : State → Held
 held_of s = record { upvalues = s.upvalues; heap = s.heap; trace = s.trace }
 
-held_back : (m : Saved) → SavedFits m → held_in (list (map upvalue_data m.state.upvalues)) (list (map cell_data m.state.heap)) (list (map item_data m.state.trace)) ≡ Some (held_of m.state)
+held_back : (m : RunState) → SavedFits m → held_in (list (map upvalue_data m.state.upvalues)) (list (map cell_data m.state.heap)) (list (map item_data m.state.trace)) ≡ Some (held_of m.state)
 unfolding held_in
 held_back m h =
     rw (
@@ -75,19 +76,19 @@ held_back m h =
     ) refl
 
 -- three lists reversed twice, and no replies
-turned : (m : Saved) → m.state.replies ≡ [] → Some record m { state = record m.state { stack = reverse (reverse m.state.stack); frames = reverse (reverse m.state.frames); throws = reverse (reverse m.state.throws); replies = [] } } ≡ Some m
+turned : (m : RunState) → m.state.replies ≡ [] → Some record m { state = record m.state { stack = reverse (reverse m.state.stack); frames = reverse (reverse m.state.frames); throws = reverse (reverse m.state.throws); replies = [] } } ≡ Some m
 turned m none = rw (reverse-reverse m.state.stack, reverse-reverse m.state.frames, reverse-reverse m.state.throws, sym none) refl
 
-rest_back : (m : Saved) → SavedFits m → rest_in (counts_of m) (rest_data m) ≡ Some m
+rest_back : (m : RunState) → SavedFits m → rest_in (counts_of m) (rest_data m) ≡ Some m
 unfolding rest_in
 rest_back m h = rw (maybe_back m.globals h.globals, mode_back m.state.mode, calls_back m h, held_back m h) (turned m h.replies)
 
-abbrev pub written_of : Format → Saved → Written
+abbrev pub written_of : Format → RunState → Written
 written_of format m = record { format = format; asked = requests_in m.state.trace; saved = m }
 
-elements_back : (format : Format) (m : Saved) → SavedFits m → written_in_list (elements_of format m) ≡ Some (written_of format m)
+elements_back : (format : Format) (m : RunState) → SavedFits m → written_in_list (elements_of format m) ≡ Some (written_of format m)
 elements_back First m h = rw (counts_back m h, rest_back m h) refl
 elements_back Second m h = rw (counts_back m h, u32_back (requests_in m.state.trace) h.asked, rest_back m h) refl
 
-pub saved_back : (format : Format) (m : Saved) → SavedFits m → written_in (saved_data format m) ≡ Some (written_of format m)
+pub saved_back : (format : Format) (m : RunState) → SavedFits m → written_in (saved_data format m) ≡ Some (written_of format m)
 saved_back format m h = ap (λ o. o >>= written_in_list) (list_in-list (elements_of format m)) ∙ elements_back format m h

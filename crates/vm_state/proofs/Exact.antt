@@ -7,37 +7,38 @@ use Rattle.serde_json.specs.Read.{read}
 use Rattle.hog_ops.specs.Plain.{Ops}
 use Rattle.vm_state.specs.declared.stop.StateStop.{StateStop}
 use Rattle.vm_state.specs.declared.stop.StateStop.TheVariants as stops
-use Rattle.vm_state.specs.Saved.{Saved, Written}
-use Rattle.vm_state.specs.Code.{belongs}
+use Rattle.vm_course.specs.Run.{RunState}
+use Rattle.vm_state.specs.Saved.{Written}
+use Rattle.vm_course.specs.Belongs.{belongs}
 use Rattle.vm_state.specs.Text.{text_in, state_in, of_written, of_read, load_of}
 use Rattle.vm_state.specs.Refusals.{IsStateOf, IsLoaded, IsRefused}
 use Rattle.vm_state.specs.Laws.{LoadsExactly, RefusesExactly}
 
 -- what is answered of a state: whether it belongs to the code, and whether the bytes are its text
-abbrev answer : Bool → Bool → Saved → Result Saved StateStop
+abbrev answer : Bool → Bool → RunState → Result RunState StateStop
 answer mine same m = cond mine (cond same (Ok m) (Err stops.NotCanonical)) (Err stops.NotThisCode)
 
-accepted : (mine same : Bool) (x m : Saved) → answer mine same x ≡ Ok m → (mine ≡ true) × (same ≡ true) × (x ≡ m)
+accepted : (mine same : Bool) (x m : RunState) → answer mine same x ≡ Ok m → (mine ≡ true) × (same ≡ true) × (x ≡ m)
 accepted true true x m e = (refl, refl, cc)
 accepted true false x m e = absurd cc
 accepted false same x m e = absurd cc
 
-never_json : (mine same : Bool) (x : Saved) → answer mine same x ≡ Err stops.NotJson → ⊥
+never_json : (mine same : Bool) (x : RunState) → answer mine same x ≡ Err stops.NotJson → ⊥
 never_json true true x e = cc
 never_json true false x e = cc
 never_json false same x e = cc
 
-never_state : (mine same : Bool) (x : Saved) → answer mine same x ≡ Err stops.NotAState → ⊥
+never_state : (mine same : Bool) (x : RunState) → answer mine same x ≡ Err stops.NotAState → ⊥
 never_state true true x e = cc
 never_state true false x e = cc
 never_state false same x e = cc
 
-other_code : (mine same : Bool) (x : Saved) → answer mine same x ≡ Err stops.NotThisCode → mine ≡ false
+other_code : (mine same : Bool) (x : RunState) → answer mine same x ≡ Err stops.NotThisCode → mine ≡ false
 other_code true true x e = absurd cc
 other_code true false x e = absurd cc
 other_code false same x e = refl
 
-other_text : (mine same : Bool) (x : Saved) → answer mine same x ≡ Err stops.NotCanonical → (mine ≡ true) × (same ≡ false)
+other_text : (mine same : Bool) (x : RunState) → answer mine same x ≡ Err stops.NotCanonical → (mine ≡ true) × (same ≡ false)
 other_text true true x e = absurd cc
 other_text true false x e = (refl, refl)
 other_text false same x e = absurd cc
@@ -61,11 +62,11 @@ from_state : (code : Ops) (bytes : List ℕ) (w : Written) → IsStateOf bytes w
 unfolding load_of of_read
 from_state code bytes w h = ap (of_read code bytes) h.1 ∙ ap (of_written code bytes) h.2
 
-answered : (mine same : Bool) (x : Saved) (b c : Bool) → mine ≡ b → same ≡ c → answer mine same x ≡ answer b c x
+answered : (mine same : Bool) (x : RunState) (b c : Bool) → mine ≡ b → same ≡ c → answer mine same x ≡ answer b c x
 answered mine same x b c e f = ap (λ p. answer p same x) e ∙ ap (λ p. answer b p x) f
 
 -- to the state that was read, or to where there is none
-read_as : (code : Ops) (bytes : List ℕ) (P : Type 0) (r : Result Saved StateStop) → (read bytes ≡ None → Err stops.NotJson ≡ r → P) → ((d : Data) → read bytes ≡ Some d → state_in d ≡ None → Err stops.NotAState ≡ r → P)
+read_as : (code : Ops) (bytes : List ℕ) (P : Type 0) (r : Result RunState StateStop) → (read bytes ≡ None → Err stops.NotJson ≡ r → P) → ((d : Data) → read bytes ≡ Some d → state_in d ≡ None → Err stops.NotAState ≡ r → P)
     → ((w : Written) → IsStateOf bytes w → answer (belongs code w.saved) (bytes_eq (text_in w.format w.saved) bytes) w.saved ≡ r → P) → load_of code bytes ≡ r → P
 unfolding load_of of_read
 read_as code bytes P r none other found e = on_read (read bytes) refl e
@@ -78,14 +79,14 @@ read_as code bytes P r none other found e = on_read (read bytes) refl e
     on_read None is e = none is e
     on_read (Some d) is e = on_state d (state_in d) is refl e
 
-loaded : (code : Ops) (bytes : List ℕ) (m : Saved) → load_of code bytes ≡ Ok m → IsLoaded code bytes m
+loaded : (code : Ops) (bytes : List ℕ) (m : RunState) → load_of code bytes ≡ Ok m → IsLoaded code bytes m
 loaded code bytes m =
     read_as code bytes (IsLoaded code bytes m) (Ok m) (λ h e. absurd cc) (λ d h g e. absurd cc)
     (λ w is e.
     let a = accepted (belongs code w.saved) (bytes_eq (text_in w.format w.saved) bytes) w.saved m e in
     (w, is, a.2, ap (belongs code) (sym a.2) ∙ a.0, ap (text_in w.format) (sym a.2) ∙ (bytes_decides (text_in w.format w.saved) bytes).0 a.1))
 
-loads : (code : Ops) (bytes : List ℕ) (m : Saved) → IsLoaded code bytes m → load_of code bytes ≡ Ok m
+loads : (code : Ops) (bytes : List ℕ) (m : RunState) → IsLoaded code bytes m → load_of code bytes ≡ Ok m
 loads code bytes m h =
     let w = h.0 in
     let same = h.2 in

@@ -5,7 +5,8 @@ use Rattle.std.specs.Prelude.{option_and_then}
 use Rattle.serde_json.specs.Data.{Data}
 use Rattle.hog_ops.specs.Plain.{Ops}
 use Rattle.state_forms.specs.Shapes.{◌>>=◌, list_in, u32_in}
-use Rattle.vm_state.specs.Saved.{Saved, Format, First, Second, Written, requests_in}
+use Rattle.vm_course.specs.Run.{RunState}
+use Rattle.vm_state.specs.Saved.{Format, First, Second, Written, requests_in}
 use Rattle.vm_state.specs.Layout.{Counts, counts_in, rest_in, rest_by, format_in, written_by, behind_format, written_in_list, written_in}
 use Rattle.vm_state.specs.Tests.{is_state, is_written, format_stands}
 use Rattle.vm_state.specs.Text.{text_in, where_state, state_in}
@@ -18,10 +19,10 @@ linked : {A B : Type 0} (o : Option A) (f : A → Option B) (y : B) → (o >>= f
 linked None f y e = absurd cc
 linked (Some x) f y e = (x, refl, e)
 
-abbrev first_form : Saved → Written
+abbrev first_form : RunState → Written
 first_form m = record { format = First; asked = requests_in m.state.trace; saved = m }
 
-abbrev second_form : ℕ → Saved → Written
+abbrev second_form : ℕ → RunState → Written
 second_form n m = record { format = Second; asked = n; saved = m }
 
 rest_format : (format : Format) (n : Counts) (ds : List Data) (w : Written) → rest_by format n ds ≡ Some w → w.format ≡ format
@@ -72,7 +73,7 @@ stands : (w : Written) → is_written w ≡ true → is_state w.saved ≡ true
 unfolding is_written
 stands w e = (both ((w.asked == requests_in w.saved.state.trace) && format_stands w.format w.saved.state.mode) (is_state w.saved) e).1
 
-format_there : (code : Ops) (bytes : List ℕ) (m : Saved) (h : IsLoaded code bytes m) → format_of_text bytes ≡ Some h.0.format
+format_there : (code : Ops) (bytes : List ℕ) (m : RunState) (h : IsLoaded code bytes m) → format_of_text bytes ≡ Some h.0.format
 format_there code bytes m h =
     let w = h.0 in
     let d = h.1.0 in

@@ -5,12 +5,13 @@ use Rattle.std.specs.Prelude.{bytes_eq}
 use Rattle.std.specs.Cmp.Lexicographic.{nat_list_eq_equiv}
 use Rattle.hog_value.specs.declared.trace.End.TheVariants as end
 use Rattle.hog_ops.specs.Plain.{Ops}
-use Rattle.vm_frames.specs.State.{Running, Waiting, Ended, Mode}
+use Rattle.vm_course.specs.State.{Running, Waiting, Ended, Mode}
 use Rattle.vm_state.specs.declared.stop.StateStop.TheVariants as stops
-use Rattle.vm_state.specs.Saved.{Saved, Format, First, Second, requests_in}
+use Rattle.vm_course.specs.Run.{RunState}
+use Rattle.vm_state.specs.Saved.{Format, First, Second, requests_in}
 use Rattle.vm_state.specs.Layout.{saved_data}
 use Rattle.vm_state.specs.Tests.{is_state, is_written, format_stands}
-use Rattle.vm_state.specs.Code.{belongs}
+use Rattle.vm_course.specs.Belongs.{belongs}
 use Rattle.vm_state.specs.Text.{text_in, where_state, state_in, of_written, of_read, load_of}
 use Rattle.vm_state.specs.Laws.{IsMachineOf, LoadsSaved, LoadsOld, Renews}
 use Rattle.vm_state.proofs.Back.{written_of, saved_back}
@@ -28,17 +29,17 @@ same_number n = grind (arith, nat_tests)
 all_three : (a b c : Bool) → a ≡ true → b ≡ true → c ≡ true → (a && b && c) ≡ true
 all_three a b c x y z = rw (x, y, z) refl
 
-written_stands : (format : Format) (m : Saved) → format_stands format m.state.mode ≡ true → is_state m ≡ true → is_written (written_of format m) ≡ true
+written_stands : (format : Format) (m : RunState) → format_stands format m.state.mode ≡ true → is_state m ≡ true → is_written (written_of format m) ≡ true
 unfolding is_written
 written_stands format m f s = all_three (requests_in m.state.trace == requests_in m.state.trace) (format_stands format m.state.mode) (is_state m) (same_number (requests_in m.state.trace)) f s
 
-state_back : (format : Format) (code : Ops) (m : Saved) → IsMachineOf code m → format_stands format m.state.mode ≡ true → state_in (saved_data format m) ≡ Some (written_of format m)
+state_back : (format : Format) (code : Ops) (m : RunState) → IsMachineOf code m → format_stands format m.state.mode ≡ true → state_in (saved_data format m) ≡ Some (written_of format m)
 unfolding state_in
 state_back format code m h f =
     ap where_state (saved_back format m h.fits)
     ∙ cond_true (is_written (written_of format m)) (Some (written_of format m)) None (written_stands format m f h.state)
 
-loads : (format : Format) (code : Ops) (m : Saved) → IsMachineOf code m → format_stands format m.state.mode ≡ true → load_of code (text_in format m) ≡ Ok m
+loads : (format : Format) (code : Ops) (m : RunState) → IsMachineOf code m → format_stands format m.state.mode ≡ true → load_of code (text_in format m) ≡ Ok m
 unfolding load_of of_read
 loads format code m h f =
     let bytes = text_in format m in

@@ -7,8 +7,9 @@ use Rattle.plain_json.specs.Inverse.{reads_back}
 use Rattle.state_forms.specs.Values.{value_data, cell_data, ValueFits, CellFits}
 use Rattle.state_forms.specs.Shown.{item_data}
 use Rattle.state_forms.proofs.Plain.{number_fine, small_fine, word_fine, value_fine, cell_fine, maybe_fine, item_fine, end_fine}
-use Rattle.vm_frames.specs.State.{Upvalue, Opened, Closed, Frame, ThrowFrame, Running, Waiting, Ended, Mode}
-use Rattle.vm_state.specs.Saved.{Saved, Format, First, Second, requests_in}
+use Rattle.vm_course.specs.State.{Upvalue, Opened, Closed, Frame, ThrowFrame, Running, Waiting, Ended, Mode}
+use Rattle.vm_course.specs.Run.{RunState}
+use Rattle.vm_state.specs.Saved.{Format, First, Second, requests_in}
 use Rattle.vm_state.specs.Layout.{frame_data, throw_data, upvalue_data, mode_data, rest_data, saved_data}
 use Rattle.vm_state.specs.Text.{text_in}
 use Rattle.vm_state.specs.Laws.{FrameFits, ThrowFits, UpvalueFits, SavedFits}
@@ -29,7 +30,7 @@ mode_fine Running = record { plain = tt; shallow = omega arith }
 mode_fine Waiting = word_fine 1 (codes "wait")
 mode_fine (Ended e) = end_fine e
 
-rest_fine : (m : Saved) → SavedFits m → AllFine 5 (rest_data m)
+rest_fine : (m : RunState) → SavedFits m → AllFine 5 (rest_data m)
 rest_fine m h =
     maybe_fine 5 m.globals h.globals & fine_more 1 5 (omega arith) (mode_fine m.state.mode)
     & fine_more 2 5 (omega arith) (fine_map 1 value_data ValueFits value_fine (reverse m.state.stack) (all_reverse ValueFits m.state.stack h.stack))
@@ -39,7 +40,7 @@ rest_fine m h =
     & fine_map 4 cell_data CellFits cell_fine m.state.heap h.heap
     & fine_more 2 5 (omega arith) (fine_map 1 item_data (λ _. Unit {0}) item_fine m.state.trace (all_any m.state.trace)) & done
 
-pub saved_fine : (format : Format) (m : Saved) → SavedFits m → Fine 6 (saved_data format m)
+pub saved_fine : (format : Format) (m : RunState) → SavedFits m → Fine 6 (saved_data format m)
 saved_fine First m h =
     fine_list 5 (
     word_fine 5 (codes "hog-state") & small_fine 5 1 (omega arith) & number_fine 5 m.ops h.ops & small_fine 5 m.state.turns h.turns
@@ -51,6 +52,6 @@ saved_fine Second m h =
     & small_fine 5 m.state.units h.units & number_fine 5 m.used h.used & small_fine 5 (requests_in m.state.trace) h.asked & rest_fine m h
     )
 
-pub text_back : (format : Format) (m : Saved) → SavedFits m → read (text_in format m) ≡ Some (saved_data format m)
+pub text_back : (format : Format) (m : RunState) → SavedFits m → read (text_in format m) ≡ Some (saved_data format m)
 unfolding text_in
 text_back format m h = let f = saved_fine format m h in reads_back (saved_data format m) f.plain (omega (arith, f.shallow))

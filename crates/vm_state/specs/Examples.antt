@@ -6,20 +6,21 @@ use Rattle.serde_json.proofs.OnLiterals.{serde_json_on_literals}
 use Rattle.hog_value.specs.declared.value.Value.TheVariants.{Int}
 use Rattle.hog_value.specs.Cells.{Dict}
 use Rattle.hog_ops.specs.Plain.{Ops, NoOp, MoreOp, Integer, PushNull, Return}
-use Rattle.vm_frames.specs.State.{Running}
+use Rattle.vm_course.specs.State.{Running}
 use Rattle.state_forms.specs.Shapes.{list_by}
 use Rattle.vm_state.specs.declared.stop.StateStop.TheVariants as stops
-use Rattle.vm_state.specs.Saved.{Saved, First}
+use Rattle.vm_course.specs.Run.{RunState}
+use Rattle.vm_state.specs.Saved.{First}
 use Rattle.vm_state.specs.Layout.{counts_in, calls_in, held_in, rest_in}
 use Rattle.vm_state.specs.Tests.{is_state, is_written}
-use Rattle.vm_state.specs.Code.{belongs}
+use Rattle.vm_course.specs.Belongs.{belongs}
 use Rattle.vm_state.specs.Text.{text_in, state_text, state_in, of_read, load_of}
 
 -- ["_H",1,33,1,38,31,38]
 abbrev one : Ops
 one = MoreOp (Integer (pos 1)) (MoreOp Return (MoreOp PushNull (MoreOp Return NoOp)))
 
-abbrev after_two : Saved
+abbrev after_two : RunState
 after_two = record {
   ops = 2;
   used = 0;

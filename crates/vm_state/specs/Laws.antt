@@ -7,13 +7,14 @@ use Rattle.hog_value.specs.declared.trace.End.TheVariants as end
 use Rattle.hog_ops.specs.Plain.{Ops}
 use Rattle.state_forms.specs.Shapes.{list_in, number_data}
 use Rattle.state_forms.specs.Values.{ValueFits, CellFits}
-use Rattle.vm_frames.specs.State.{Upvalue, Opened, Closed, Frame, ThrowFrame, Ended}
+use Rattle.vm_course.specs.State.{Upvalue, Opened, Closed, Frame, ThrowFrame, Ended}
 use Rattle.vm_state.specs.declared.stop.StateStop.{StateStop}
 use Rattle.vm_state.specs.declared.stop.StateStop.TheVariants as stops
-use Rattle.vm_state.specs.Saved.{Saved, Format, First, Second, requests_in}
+use Rattle.vm_course.specs.Run.{RunState}
+use Rattle.vm_state.specs.Saved.{Format, First, Second, requests_in}
 use Rattle.vm_state.specs.Layout.{format_in, elements_of}
 use Rattle.vm_state.specs.Tests.{is_state}
-use Rattle.vm_state.specs.Code.{belongs}
+use Rattle.vm_course.specs.Belongs.{belongs}
 use Rattle.vm_state.specs.Text.{text_in, load_of}
 use Rattle.vm_state.specs.Refusals.{IsLoaded, IsRefused}
 
@@ -28,7 +29,7 @@ abbrev pub UpvalueFits : Upvalue → Type 0
 UpvalueFits (Opened place) = place < 2 ^ 32
 UpvalueFits (Closed v) = ValueFits v
 
-pub record SavedFits (m : Saved) : Type 0 where
+pub record SavedFits (m : RunState) : Type 0 where
   pub ops : m.ops < 2 ^ 64
   pub turns : m.state.turns < 2 ^ 32
   pub units : m.state.units < 2 ^ 32
@@ -43,18 +44,18 @@ pub record SavedFits (m : Saved) : Type 0 where
   pub replies : m.state.replies ≡ []
 
 -- what holds of each machine of a code
-pub record IsMachineOf (code : Ops) (m : Saved) : Type 0 where
+pub record IsMachineOf (code : Ops) (m : RunState) : Type 0 where
   pub fits : SavedFits m
   pub state : is_state m ≡ true
   pub belongs : belongs code m ≡ true
 
 -- a machine's text loads as that machine
 abbrev pub LoadsSaved : Type 0
-LoadsSaved = (code : Ops) (m : Saved) → IsMachineOf code m → load_of code (text_in Second m) ≡ Ok m
+LoadsSaved = (code : Ops) (m : RunState) → IsMachineOf code m → load_of code (text_in Second m) ≡ Ok m
 
 -- so does its text in the first format, unless it has ended as too many fetches
 abbrev pub LoadsOld : Type 0
-LoadsOld = (code : Ops) (m : Saved) → IsMachineOf code m → m.state.mode ≢ Ended end.TooManyFetches → load_of code (text_in First m) ≡ Ok m
+LoadsOld = (code : Ops) (m : RunState) → IsMachineOf code m → m.state.mode ≢ Ended end.TooManyFetches → load_of code (text_in First m) ≡ Ok m
 
 -- the format of a text that is JSON
 abbrev pub format_of_text : List ℕ → Option Format
@@ -62,11 +63,11 @@ format_of_text bytes = option_and_then format_in (option_and_then list_in (read 
 
 -- the bytes that were loaded are the machine's text in their format: those in the second are what is saved
 abbrev pub SavesLoaded : Type 0
-SavesLoaded = (code : Ops) (bytes : List ℕ) (m : Saved) (format : Format) → load_of code bytes ≡ Ok m → format_of_text bytes ≡ Some format → text_in format m ≡ bytes
+SavesLoaded = (code : Ops) (bytes : List ℕ) (m : RunState) (format : Format) → load_of code bytes ≡ Ok m → format_of_text bytes ≡ Some format → text_in format m ≡ bytes
 
 -- what was loaded has a format
 abbrev pub HasFormat : Type 0
-HasFormat = (code : Ops) (bytes : List ℕ) (m : Saved) → load_of code bytes ≡ Ok m → (format : Format) × (format_of_text bytes ≡ Some format)
+HasFormat = (code : Ops) (bytes : List ℕ) (m : RunState) → load_of code bytes ≡ Ok m → (format : Format) × (format_of_text bytes ≡ Some format)
 
 -- The elements of the second format are those of the first with 2 as the second, and with the number of requests behind
 -- that of the replies.
@@ -75,15 +76,15 @@ renewed asked (name ∷ format ∷ ops ∷ turns ∷ units ∷ used ∷ rest) = 
 renewed asked ds = ds
 
 abbrev pub Renews : Type 0
-Renews = (m : Saved) → elements_of Second m ≡ renewed (requests_in m.state.trace) (elements_of First m)
+Renews = (m : RunState) → elements_of Second m ≡ renewed (requests_in m.state.trace) (elements_of First m)
 
 -- what is loaded, and each refusal, comes exactly where it is said
 abbrev pub LoadsExactly : Type 0
-LoadsExactly = (code : Ops) (bytes : List ℕ) (m : Saved) → (load_of code bytes ≡ Ok m) ↔ IsLoaded code bytes m
+LoadsExactly = (code : Ops) (bytes : List ℕ) (m : RunState) → (load_of code bytes ≡ Ok m) ↔ IsLoaded code bytes m
 
 abbrev pub RefusesExactly : Type 0
 RefusesExactly = (code : Ops) (bytes : List ℕ) (e : StateStop) → e ≢ stops.OutOfMemory → (load_of code bytes ≡ Err e) ↔ IsRefused code bytes e
 
 -- what was loaded is a state, and belongs to the code
 abbrev pub LoadsStates : Type 0
-LoadsStates = (code : Ops) (bytes : List ℕ) (m : Saved) → load_of code bytes ≡ Ok m → (is_state m ≡ true) × (belongs code m ≡ true)
+LoadsStates = (code : Ops) (bytes : List ℕ) (m : RunState) → load_of code bytes ≡ Ok m → (is_state m ≡ true) × (belongs code m ≡ true)

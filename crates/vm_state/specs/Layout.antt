@@ -9,8 +9,9 @@ use Rattle.hog_value.specs.Cells.{HeapOf}
 use Rattle.state_forms.specs.Shapes.{◌>>=◌, list_in, list, list_by, u32_in, u64_in, number_data, maybe_in, maybe_data}
 use Rattle.state_forms.specs.Values.{value_in, value_data, cell_in, cell_data}
 use Rattle.state_forms.specs.Shown.{item_in, item_data, end_in, end_data}
-use Rattle.vm_frames.specs.State.{Upvalue, Opened, Closed, Frame, ThrowFrame, Running, Waiting, Ended, Mode}
-use Rattle.vm_state.specs.Saved.{Saved, Format, First, Second, Written, requests_in}
+use Rattle.vm_course.specs.State.{Upvalue, Opened, Closed, Frame, ThrowFrame, Running, Waiting, Ended, Mode}
+use Rattle.vm_course.specs.Run.{RunState}
+use Rattle.vm_state.specs.Saved.{Format, First, Second, Written, requests_in}
 
 -- [place, base, cell of the function or null]
 abbrev pub frame_in_list : List Data → Option Frame
@@ -99,7 +100,7 @@ unfoldable pub held_in : Data → Data → Data → Option Held
 held_in upvalues heap trace =
     list_by upvalue_in upvalues >>= λ u. list_by cell_in heap >>= λ h. list_by item_in trace >>= λ t. Some record { upvalues = u; heap = h; trace = t }
 
-abbrev pub saved_of : Counts → Option ℕ → Mode → Calls → Held → Saved
+abbrev pub saved_of : Counts → Option ℕ → Mode → Calls → Held → RunState
 saved_of n globals mode c h = record {
   ops = n.ops;
   used = n.used;
@@ -119,7 +120,7 @@ saved_of n globals mode c h = record {
 }
 
 -- the elements behind the counts: globals, end, stack, frames, throws, upvalues, heap, trace
-unfoldable pub rest_in : Counts → List Data → Option Saved
+unfoldable pub rest_in : Counts → List Data → Option RunState
 rest_in n (globals ∷ ending ∷ stack ∷ frames ∷ throws ∷ upvalues ∷ heap ∷ trace ∷ []) =
     maybe_in u32_in globals >>= λ g. mode_in ending >>= λ m. calls_in stack frames throws >>= λ c. held_in upvalues heap trace >>= λ h.
     Some (saved_of n g m c h)
@@ -156,16 +157,16 @@ abbrev pub written_in : Data → Option Written
 written_in d = list_in d >>= written_in_list
 
 -- the elements of a machine's text in a format
-abbrev pub rest_data : Saved → List Data
+abbrev pub rest_data : RunState → List Data
 rest_data m =
     maybe_data number_data m.globals ∷ mode_data m.state.mode ∷ list (map value_data (reverse m.state.stack))
     ∷ list (map frame_data (reverse m.state.frames)) ∷ list (map throw_data (reverse m.state.throws))
     ∷ list (map upvalue_data m.state.upvalues) ∷ list (map cell_data m.state.heap) ∷ list (map item_data m.state.trace) ∷ []
 
-abbrev pub counts_data : Saved → List Data
+abbrev pub counts_data : RunState → List Data
 counts_data m = number_data m.ops ∷ number_data m.state.turns ∷ number_data m.state.units ∷ number_data m.used ∷ []
 
-abbrev pub asked_data : Format → Saved → List Data
+abbrev pub asked_data : Format → RunState → List Data
 asked_data First m = []
 asked_data Second m = number_data (requests_in m.state.trace) ∷ []
 
@@ -173,8 +174,8 @@ abbrev pub number_of_format : Format → ℕ
 number_of_format First = 1
 number_of_format Second = 2
 
-abbrev pub elements_of : Format → Saved → List Data
+abbrev pub elements_of : Format → RunState → List Data
 elements_of format m = string (codes "hog-state") ∷ number_data (number_of_format format) ∷ counts_data m ++ (asked_data format m ++ rest_data m)
 
-abbrev pub saved_data : Format → Saved → Data
+abbrev pub saved_data : Format → RunState → Data
 saved_data format m = list (elements_of format m)

@@ -1,7 +1,6 @@
 pub mod Saved
 pub mod Layout
 pub mod Tests
-pub mod Code
 pub mod Text
 pub mod Refusals
 pub mod Laws

@@ -5,8 +5,9 @@ use Rattle.serde_json.specs.Read.{read}
 use Rattle.hog_ops.specs.Plain.{Ops}
 use Rattle.vm_state.specs.declared.stop.StateStop.{StateStop}
 use Rattle.vm_state.specs.declared.stop.StateStop.TheVariants as stops
-use Rattle.vm_state.specs.Saved.{Saved, Written}
-use Rattle.vm_state.specs.Code.{belongs}
+use Rattle.vm_course.specs.Run.{RunState}
+use Rattle.vm_state.specs.Saved.{Written}
+use Rattle.vm_course.specs.Belongs.{belongs}
 use Rattle.vm_state.specs.Text.{text_in, state_in}
 
 -- the bytes are JSON, and their value is the state of what was written
@@ -14,7 +15,7 @@ abbrev pub IsStateOf : List ℕ → Written → Type 0
 IsStateOf bytes w = (d : Data) × (read bytes ≡ Some d) × (state_in d ≡ Some w)
 
 -- the machine belongs to the code, and the bytes are its text in their own format
-abbrev pub IsLoaded : Ops → List ℕ → Saved → Type 0
+abbrev pub IsLoaded : Ops → List ℕ → RunState → Type 0
 IsLoaded code bytes m = (w : Written) × IsStateOf bytes w × (w.saved ≡ m) × (belongs code m ≡ true) × (text_in w.format m ≡ bytes)
 
 -- Want of memory can come anywhere.

@@ -4,15 +4,8 @@ use Rattle.hog_value.specs.declared.trace.End.{End}
 use Rattle.hog_value.specs.declared.trace.End.TheVariants as end
 use Rattle.hog_value.specs.declared.trace.TraceItem.{TraceItem}
 use Rattle.hog_meaning.specs.Meaning.{is_request}
-use Rattle.vm_frames.specs.State.{Running, Waiting, Ended, Mode, State}
-
--- How many operations were done, how many replies were taken in, and the cell of the globals, which there is none of where
--- the run ended in its first operation; and the state. Replies that are to come are no part of a machine.
-pub record Saved : Type 0 where
-  pub ops : ℕ
-  pub used : ℕ
-  pub globals : Option ℕ
-  pub state : State
+use Rattle.vm_course.specs.State.{Running, Waiting, Ended, Mode}
+use Rattle.vm_course.specs.Run.{RunState}
 
 -- The second format has the number of requests beside the number of replies; it is the one in which machines are saved.
 -- The first is older, and is still read.
@@ -24,7 +17,7 @@ pub data Format : Type 0 where
 pub record Written : Type 0 where
   pub format : Format
   pub asked : ℕ
-  pub saved : Saved
+  pub saved : RunState
 
 abbrev pub requests_in : List TraceItem → ℕ
 requests_in trace = count_by is_request trace

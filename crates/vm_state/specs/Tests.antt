@@ -9,8 +9,9 @@ use Rattle.hog_value.specs.Values.{Val}
 use Rattle.hog_value.specs.Cells.{CellOf, Text, Array, Dict, Fun, HeapOf, pairs_at}
 use Rattle.hog_value.specs.Meters.{max_turns, max_units, max_depth}
 use Rattle.hog_meaning.specs.Meaning.{is_request, most_requests}
-use Rattle.vm_frames.specs.State.{Upvalue, Opened, Closed, Frame, ThrowFrame, Running, Waiting, Ended, Mode, State, function_at}
-use Rattle.vm_state.specs.Saved.{Saved, Format, First, Second, Written, requests_in, ended_with, is_memory, is_fetches}
+use Rattle.vm_course.specs.State.{Upvalue, Opened, Closed, Frame, ThrowFrame, Running, Waiting, Ended, Mode, State, function_at}
+use Rattle.vm_course.specs.Run.{RunState}
+use Rattle.vm_state.specs.Saved.{Format, First, Second, Written, requests_in, ended_with, is_memory, is_fetches}
 
 -- a value that names a cell names one that is there
 abbrev pub names : ℕ → Val → Bool
@@ -107,7 +108,7 @@ values_stand s =
     list_all (names (length s.heap)) (reverse s.stack) && list_all (cell_stands (length s.heap) (length s.upvalues)) s.heap
     && upvalues_stand (length s.heap) (length s.stack) [] s.upvalues
 
-unfoldable pub is_state : Saved → Bool
+unfoldable pub is_state : RunState → Bool
 is_state m =
     counts_stand m.state && calls_stand m.state && values_stand m.state && globals_stand m.state.heap m.state.mode m.globals
     && waits_for m.state.mode m.state.trace

@@ -6,16 +6,17 @@ use Rattle.serde_json.specs.Written.{compact_text}
 use Rattle.hog_ops.specs.Plain.{Ops}
 use Rattle.vm_state.specs.declared.stop.StateStop.{StateStop}
 use Rattle.vm_state.specs.declared.stop.StateStop.TheVariants as stops
-use Rattle.vm_state.specs.Saved.{Saved, Format, Second, Written}
+use Rattle.vm_course.specs.Run.{RunState}
+use Rattle.vm_state.specs.Saved.{Format, Second, Written}
 use Rattle.vm_state.specs.Layout.{written_in, saved_data}
 use Rattle.vm_state.specs.Tests.{is_written}
-use Rattle.vm_state.specs.Code.{belongs}
+use Rattle.vm_course.specs.Belongs.{belongs}
 
-unfoldable pub text_in : Format → Saved → List ℕ
+unfoldable pub text_in : Format → RunState → List ℕ
 text_in format m = compact_text (saved_data format m)
 
 -- machines are saved in the second format
-abbrev pub state_text : Saved → List ℕ
+abbrev pub state_text : RunState → List ℕ
 state_text m = text_in Second m
 
 -- what a JSON value is the state of
@@ -30,27 +31,27 @@ state_in d = where_state (written_in d)
 abbrev pub is_canonical : List ℕ → Written → Type 0
 is_canonical bytes w = text_in w.format w.saved ≡ bytes
 
-abbrev pub of_written : Ops → List ℕ → Option Written → Result Saved StateStop
+abbrev pub of_written : Ops → List ℕ → Option Written → Result RunState StateStop
 of_written code bytes None = Err stops.NotAState
 of_written code bytes (Some w) =
     if belongs code w.saved then (if bytes_eq (text_in w.format w.saved) bytes then Ok w.saved else Err stops.NotCanonical) else Err stops.NotThisCode
 
-unfoldable pub of_read : Ops → List ℕ → Option Data → Result Saved StateStop
+unfoldable pub of_read : Ops → List ℕ → Option Data → Result RunState StateStop
 of_read code bytes None = Err stops.NotJson
 of_read code bytes (Some d) = of_written code bytes (state_in d)
 
 -- the machine of a code that the bytes are the text of, or the first refusal
-unfoldable pub load_of : Ops → List ℕ → Result Saved StateStop
+unfoldable pub load_of : Ops → List ℕ → Result RunState StateStop
 load_of code bytes = of_read code bytes (read bytes)
 
 -- A function answered so, unless memory ran out.
-abbrev pub StopIs : StateStop → Result Saved StateStop → Type 0
+abbrev pub StopIs : StateStop → Result RunState StateStop → Type 0
 StopIs stops.OutOfMemory r = Unit {0}
 StopIs stops.NotJson r = r ≡ Err stops.NotJson
 StopIs stops.NotAState r = r ≡ Err stops.NotAState
 StopIs stops.NotThisCode r = r ≡ Err stops.NotThisCode
 StopIs stops.NotCanonical r = r ≡ Err stops.NotCanonical
 
-abbrev pub Answers : {X : Type 0} → (X → Saved) → Result X StateStop → Result Saved StateStop → Type 0
+abbrev pub Answers : {X : Type 0} → (X → RunState) → Result X StateStop → Result RunState StateStop → Type 0
 Answers see (Ok x) r = r ≡ Ok (see x)
 Answers see (Err e) r = StopIs e r

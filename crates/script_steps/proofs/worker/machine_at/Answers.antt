@@ -1,10 +1,10 @@
 use Rattle.std.proofs.Common.{◌≡◌, ℕ, ◌+◌, ◌-◌, ◌<◌, ◌≤◌, ◌^◌, Ok, refl, sym, ap, ◌∙◌, inl, inr, min, arith}
 use Rattle.hog_tree.specs.View.{tree_of}
-use Rattle.hogvm.specs.Code.{program_code}
-use Rattle.hogvm.specs.Law.{course}
-use Rattle.hogvm.specs.Machine.{State, Run, after_run, operations_done}
-use Rattle.hogvm.proofs.Steps.{done_most}
-use Rattle.hogvm.proofs.Stack.{end_by, never_asks}
+use Rattle.hog_sums.specs.Code.{program_code}
+use Rattle.hog_sums.specs.Law.{course}
+use Rattle.hog_sums.specs.Machine.{State, Run, after_run, operations_done}
+use Rattle.hog_sums.proofs.Steps.{done_most}
+use Rattle.hog_sums.proofs.Stack.{end_by, never_asks}
 use Rattle.script_steps.specs.Course.{after_mode}
 use Rattle.script_steps.proofs.Runs.{reached_on, state_on, finished, reached_first, min_some, min_most}
 use Rattle.script_steps.proofs.worker.machine_at.Goals as goal

@@ -1,6 +1,6 @@
 use Rattle.std.proofs.Common.{◌≡◌, ◌≤◌, ◌-◌}
 use Rattle.hog_tree.specs.View.{tree_of}
-use Rattle.hogvm.specs.Law.{course}
+use Rattle.hog_sums.specs.Law.{course}
 use Rattle.script_steps.specs.Course.{IsReached}
 use Rattle.script_steps.proofs.worker.machine_at.Given as goal
 

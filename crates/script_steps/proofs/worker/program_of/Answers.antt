@@ -1,6 +1,6 @@
 use Rattle.std.proofs.Common.{◌≡◌, List, ℕ, subst}
 use Rattle.hog_tree.specs.View.{tree_of}
-use Rattle.hogvm.specs.Sums.{IsSums}
+use Rattle.hog_sums.specs.Sums.{IsSums}
 use Rattle.hog_program.specs.Build.{IsBuilt, IsUnbuilt}
 use Rattle.script_steps.proofs.worker.program_of.Goals as goal
 

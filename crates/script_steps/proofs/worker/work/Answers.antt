@@ -2,10 +2,10 @@ use Rattle.std.proofs.Common.{◌≡◌, ℕ, ◌+◌, ◌-◌, ◌<◌, ◌≤�
 use Rattle.hog_tree.specs.Plain.{Stms}
 use Rattle.hog_tree.specs.View.{tree_of}
 use Rattle.hog_value.specs.declared.trace.Shown.{Shown}
-use Rattle.hogvm.specs.Code.{program_code}
-use Rattle.hogvm.specs.Law.{course}
-use Rattle.hogvm.specs.Machine.{Mode, Running, State, shown_at}
-use Rattle.hogvm.proofs.Course.{still_runs}
+use Rattle.hog_sums.specs.Code.{program_code}
+use Rattle.hog_sums.specs.Law.{course}
+use Rattle.hog_sums.specs.Machine.{Mode, Running, State, shown_at}
+use Rattle.hog_sums.proofs.Course.{still_runs}
 use Rattle.cyclotron_jobs.specs.Leases.{LeaseOf}
 use Rattle.cyclotron_jobs.specs.declared.row.QueueName.TheVariants as queue
 use Rattle.script_steps.specs.Course.{IsSlice}

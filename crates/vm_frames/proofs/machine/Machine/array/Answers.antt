@@ -7,11 +7,11 @@ use Rattle.hog_value.specs.Cells.{Array}
 use Rattle.hog_value.specs.Operations.{made}
 use Rattle.hog_meaning.specs.Operators.{dictionary_made}
 use Rattle.hog_operators.specs.Pairs.{in_turn}
-use Rattle.vm_frames.specs.State.{State}
+use Rattle.vm_course.specs.State.{State}
 use Rattle.vm_frames.specs.Seen.{seen}
-use Rattle.vm_frames.specs.Stack.{keep, taken, floor_of}
-use Rattle.vm_frames.specs.Step.{act, on_and_push, in_pairs}
-use Rattle.vm_frames.specs.Throws.{with_heap, on_outcome}
+use Rattle.vm_course.specs.Stack.{keep, taken, floor_of}
+use Rattle.vm_course.specs.Step.{act, on_and_push, in_pairs}
+use Rattle.vm_course.specs.Throws.{with_heap, on_outcome}
 use Rattle.vm_frames.specs.Here.{here_of, innermost, IsStopped, set_stop}
 use Rattle.vm_frames.proofs.Landing.{on_ok}
 use Rattle.vm_frames.proofs.JumpLemmas.{on_err, stopped_is}

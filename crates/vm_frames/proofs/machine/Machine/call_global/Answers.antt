@@ -7,11 +7,11 @@ use Rattle.hog_value.specs.Meters.{Spent}
 use Rattle.hog_library.specs.Called.{called}
 use Rattle.hog_library.specs.Answers.{Keeps}
 use Rattle.hog_meaning.specs.Meaning.{is_fetch, is_request, most_requests}
-use Rattle.vm_frames.specs.State.{State}
+use Rattle.vm_course.specs.State.{State}
 use Rattle.vm_frames.specs.Seen.{seen}
-use Rattle.vm_frames.specs.Stack.{keep, taken, floor_of}
-use Rattle.vm_frames.specs.Step.{act, of_native, spent_by}
-use Rattle.vm_frames.specs.Throws.{ends}
+use Rattle.vm_course.specs.Stack.{keep, taken, floor_of}
+use Rattle.vm_course.specs.Step.{act, of_native, spent_by}
+use Rattle.vm_course.specs.Throws.{ends}
 use Rattle.vm_frames.specs.Here.{here_of, innermost, answer_taken, IsCallStopped}
 use Rattle.vm_frames.proofs.Landing.{on_ok}
 use Rattle.vm_frames.proofs.JumpLemmas.{on_err}

@@ -3,10 +3,10 @@ use Rattle.std.proofs.lemmas.Bool.Decides.{nat_tests}
 use Rattle.hog_value.specs.declared.value.Value.TheVariants.{Null}
 use Rattle.hog_value.specs.Values.{Val}
 use Rattle.hog_json.specs.Texts.{named_text}
-use Rattle.vm_frames.specs.State.{State}
-use Rattle.vm_frames.specs.Stack.{keep, taken, floor_of}
-use Rattle.vm_frames.specs.Step.{act, on_and_push, get_global, global_of, property_path}
-use Rattle.vm_frames.specs.Throws.{on_result}
+use Rattle.vm_course.specs.State.{State}
+use Rattle.vm_course.specs.Stack.{keep, taken, floor_of}
+use Rattle.vm_course.specs.Step.{act, on_and_push, get_global, global_of, property_path}
+use Rattle.vm_course.specs.Throws.{on_result}
 use Rattle.vm_frames.specs.Here.{here_of, innermost}
 use Rattle.vm_frames.proofs.Landing.{on_ok}
 use Rattle.vm_frames.proofs.Paths.{global_read, no_global, tail_is}

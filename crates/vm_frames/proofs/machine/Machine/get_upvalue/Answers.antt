@@ -1,9 +1,9 @@
 use Rattle.std.proofs.Common.{◌≡◌, List, sym, ap, ap₂, ◌∙◌}
 use Rattle.hog_value.specs.Values.{Val}
-use Rattle.vm_frames.specs.State.{State}
-use Rattle.vm_frames.specs.Step.{act, on_with, on_and_push, binary}
-use Rattle.vm_frames.specs.Stack.{keep}
-use Rattle.vm_frames.specs.Throws.{on_result, on_outcome}
+use Rattle.vm_course.specs.State.{State}
+use Rattle.vm_course.specs.Step.{act, on_with, on_and_push, binary}
+use Rattle.vm_course.specs.Stack.{keep}
+use Rattle.vm_course.specs.Throws.{on_result, on_outcome}
 use Rattle.vm_frames.specs.Here.{here_of}
 use Rattle.vm_frames.proofs.Landing.{on_ok}
 use Rattle.vm_frames.proofs.Tops.{by_one, by_two, by_three}

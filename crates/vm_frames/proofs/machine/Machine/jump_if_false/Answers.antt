@@ -1,16 +1,16 @@
 use Rattle.std.proofs.Common.{◌≡◌, List, sym, ap, ap₂, ◌∙◌}
 use Rattle.hog_value.specs.Values.{Val}
-use Rattle.vm_frames.specs.State.{State}
-use Rattle.vm_frames.specs.Step.{act, on_with, on_and_push, binary}
-use Rattle.vm_frames.specs.Stack.{keep}
-use Rattle.vm_frames.specs.Throws.{on_result, on_outcome}
+use Rattle.vm_course.specs.State.{State}
+use Rattle.vm_course.specs.Step.{act, on_with, on_and_push, binary}
+use Rattle.vm_course.specs.Stack.{keep}
+use Rattle.vm_course.specs.Throws.{on_result, on_outcome}
 use Rattle.vm_frames.specs.Here.{here_of}
 use Rattle.vm_frames.proofs.Landing.{on_ok}
 use Rattle.vm_frames.proofs.Tops.{by_one, by_two, by_three}
 use Rattle.std.proofs.Common.{cond}
 use Rattle.hog_value.specs.Operations.{truth_of}
-use Rattle.vm_frames.specs.Stack.{cut_to}
-use Rattle.vm_frames.specs.Step.{jump}
+use Rattle.vm_course.specs.Stack.{cut_to}
+use Rattle.vm_course.specs.Step.{jump}
 use Rattle.std.proofs.lemmas.Int.{to_z-of_z}
 use Rattle.std.specs.Int.{w64}
 use Rattle.vm_frames.proofs.machine.Machine.jump_if_false.Goals as goal

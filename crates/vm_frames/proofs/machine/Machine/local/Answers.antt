@@ -1,6 +1,6 @@
 use Rattle.std.proofs.Common.{length, sym, subst}
 use Rattle.hog_value.specs.Values.{NamesBelow}
-use Rattle.vm_frames.specs.State.{State}
+use Rattle.vm_course.specs.State.{State}
 use Rattle.vm_frames.proofs.Fit.{named_or_null}
 use Rattle.vm_frames.proofs.machine.Machine.local.Goals as goal
 

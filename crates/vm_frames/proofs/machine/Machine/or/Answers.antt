@@ -3,9 +3,9 @@ use Rattle.std.specs.List.{list_any}
 use Rattle.hog_value.specs.declared.value.Value.TheVariants.{Bool as Truth}
 use Rattle.hog_value.specs.Values.{Val}
 use Rattle.hog_value.specs.Operations.{truth_of}
-use Rattle.vm_frames.specs.State.{State}
-use Rattle.vm_frames.specs.Stack.{keep, taken, floor_of}
-use Rattle.vm_frames.specs.Step.{act, on_and_push, any_true}
+use Rattle.vm_course.specs.State.{State}
+use Rattle.vm_course.specs.Stack.{keep, taken, floor_of}
+use Rattle.vm_course.specs.Step.{act, on_and_push, any_true}
 use Rattle.vm_frames.specs.Here.{here_of, innermost}
 use Rattle.vm_frames.proofs.Landing.{on_ok}
 use Rattle.vm_frames.proofs.machine.Machine.or.Goals as goal

@@ -1,7 +1,7 @@
 use Rattle.std.proofs.Common.{◌≡◌, length, drop}
 use Rattle.std.specs.Prelude.{Ok}
 use Rattle.hog_value.specs.Values.{NamesBelow}
-use Rattle.vm_frames.specs.Step.{property_path}
+use Rattle.vm_course.specs.Step.{property_path}
 use Rattle.vm_frames.proofs.machine.Machine.property_path.Given as goal
 
 abbrev pub invariant-loop-key : goal.invariant-loop-key

@@ -1,9 +1,9 @@
 use Rattle.std.proofs.Common.{◌≡◌, List, sym, ap, ap₂, subst, ◌∙◌}
 use Rattle.hog_value.specs.Values.{Val}
-use Rattle.vm_frames.specs.State.{State}
-use Rattle.vm_frames.specs.Step.{act, on_with, on_and_push, binary}
-use Rattle.vm_frames.specs.Stack.{keep}
-use Rattle.vm_frames.specs.Throws.{on_result, on_outcome}
+use Rattle.vm_course.specs.State.{State}
+use Rattle.vm_course.specs.Step.{act, on_with, on_and_push, binary}
+use Rattle.vm_course.specs.Stack.{keep}
+use Rattle.vm_course.specs.Throws.{on_result, on_outcome}
 use Rattle.vm_frames.specs.Here.{here_of, IsStopped}
 use Rattle.vm_frames.proofs.Landing.{on_ok}
 use Rattle.vm_frames.proofs.Tops.{by_one, by_two, by_three}
@@ -12,7 +12,7 @@ use Rattle.hog_value.specs.Meters.{Spent}
 use Rattle.hog_value.specs.Operations.{Gives, Throws, Spends}
 use Rattle.hog_meaning.specs.Operators.{assigned}
 use Rattle.vm_frames.specs.Seen.{seen}
-use Rattle.vm_frames.specs.Throws.{ends, with_heap, throw_kind}
+use Rattle.vm_course.specs.Throws.{ends, with_heap, throw_kind}
 use Rattle.std.specs.Prelude.{Err}
 use Rattle.hog_value.specs.declared.value.SetStop.TheVariants as stop
 use Rattle.vm_frames.proofs.JumpLemmas.{on_err, stopped_is}

@@ -1,6 +1,6 @@
 use Rattle.std.proofs.Common.{length, All, sym, subst}
 use Rattle.hog_value.specs.Values.{NamesBelow}
-use Rattle.vm_frames.specs.State.{State}
+use Rattle.vm_course.specs.State.{State}
 use Rattle.vm_frames.proofs.Fit.{with_named}
 use Rattle.vm_frames.proofs.machine.Machine.set_value.Goals as goal
 

@@ -1,7 +1,7 @@
 use Rattle.std.proofs.Common.{◌≡◌, ◌<◌, Some, length, min, arith, ap, ap₂, sym, ◌∙◌}
-use Rattle.vm_frames.specs.State.{State, ThrowFrame}
+use Rattle.vm_course.specs.State.{State, ThrowFrame}
 use Rattle.vm_frames.specs.Seen.{seen}
-use Rattle.vm_frames.specs.Stack.{push}
+use Rattle.vm_course.specs.Stack.{push}
 use Rattle.vm_frames.specs.Here.{first_of, others_of}
 use Rattle.vm_frames.proofs.Landing.{on_ok, lands}
 use Rattle.vm_frames.proofs.machine.Machine.throw_from.Goals as goal

@@ -1,7 +1,7 @@
 use Rattle.std.proofs.Common.{subst, length, All}
 use Rattle.hog_value.specs.Values.{NamesBelow}
 use Rattle.vm_frames.specs.Here.{IsFit}
-use Rattle.vm_frames.specs.State.{State}
+use Rattle.vm_course.specs.State.{State}
 use Rattle.vm_frames.proofs.machine.Machine.top.Goals as goal
 
 pub returns-clause-names : goal.returns-clause-names

@@ -1,7 +1,7 @@
 use Rattle.std.proofs.Common.{◌≡◌, Some, All, arith, ap, sym, subst, ◌∙◌}
 use Rattle.std.specs.Prelude.{IfSome}
 use Rattle.hog_value.specs.Values.{NamesBelow}
-use Rattle.vm_frames.specs.Stack.{value_at}
+use Rattle.vm_course.specs.Stack.{value_at}
 use Rattle.vm_frames.proofs.Lists.{value_at-read, value_at-past, names-value_at}
 use Rattle.vm_frames.proofs.stack.Stack.at.Goals as goal
 

@@ -1,6 +1,6 @@
 use Rattle.std.proofs.Common.{ap, sym, ◌∙◌}
 use Rattle.std.specs.Prelude.{reverse}
-use Rattle.vm_frames.specs.Stack.{keep}
+use Rattle.vm_course.specs.Stack.{keep}
 use Rattle.vm_frames.proofs.Lists.{keep-reverse}
 use Rattle.vm_frames.proofs.stack.Stack.keep.Goals as goal
 

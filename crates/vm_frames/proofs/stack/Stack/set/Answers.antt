@@ -1,5 +1,5 @@
 use Rattle.std.proofs.Common.{arith, ap, sym, ◌∙◌}
-use Rattle.vm_frames.specs.Stack.{with_value}
+use Rattle.vm_course.specs.Stack.{with_value}
 use Rattle.vm_frames.proofs.Lists.{with_value-reverse, with_value-past}
 use Rattle.vm_frames.proofs.stack.Stack.set.Goals as goal
 

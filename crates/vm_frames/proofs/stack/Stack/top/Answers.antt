@@ -1,7 +1,7 @@
 use Rattle.std.proofs.Common.{◌≡◌, ◌+◌, ◌-◌, Some, arith, inl, inr, ap, sym, subst, ◌∙◌}
 use Rattle.std.specs.Prelude.{IfSome}
 use Rattle.hog_value.specs.Values.{NamesBelow}
-use Rattle.vm_frames.specs.Stack.{value_at, keep, top_of}
+use Rattle.vm_course.specs.Stack.{value_at, keep, top_of}
 use Rattle.vm_frames.proofs.Lists.{top_of-missing, top_of-operand, value_at-read, names-value_at, length_seen}
 use Rattle.vm_frames.proofs.stack.Stack.top.Goals as goal
 use Rattle.vm_frames.proofs.stack.Stack.top.Goals.{then-len-eq0-via-then-len-eq0, then-len-eq0-via-else-len-eq0+then-len-floor}

@@ -1,6 +1,6 @@
 use Rattle.std.proofs.Common.{◌≡◌, length}
 use Rattle.std.specs.Prelude.{reverse}
-use Rattle.vm_frames.specs.Step.{throws_around}
+use Rattle.vm_course.specs.Step.{throws_around}
 use Rattle.vm_frames.proofs.throws.Throws.keep_around.Given as goal
 
 abbrev pub invariant-loop-t : goal.invariant-loop-t

@@ -5,7 +5,7 @@ use Rattle.std.specs.Ordering.{nat_cmp}
 use Rattle.std.specs.BTreeMap.{get}
 use Rattle.hog_value.specs.declared.value.Value.TheVariants.{Null}
 use Rattle.vm_frames.specs.declared.upvalues.Upvalue.TheVariants as up
-use Rattle.vm_frames.specs.Stack.{value_at, or_null}
+use Rattle.vm_course.specs.Stack.{value_at, or_null}
 use Rattle.vm_frames.proofs.Closing.{closed_more, none_left}
 use Rattle.vm_frames.proofs.Indexed.{indexed_less}
 use Rattle.vm_frames.proofs.upvalues.Upvalues.close.Goals as goal

@@ -1,6 +1,6 @@
 use Rattle.std.proofs.Common.{ap, sym, ◌∙◌}
 use Rattle.std.specs.Prelude.{slice_get, slice_set}
-use Rattle.vm_frames.specs.State.{Closed}
+use Rattle.vm_course.specs.State.{Closed}
 use Rattle.vm_frames.proofs.Closing.{listed_closed, set_seen}
 use Rattle.vm_frames.proofs.Indexed.{indexed_set}
 use Rattle.vm_frames.proofs.upvalues.Upvalues.set.Goals as goal

@@ -1,5 +1,0 @@
-use Rattle.hogvm.proofs.Stack.{operand_is}
-use Rattle.hogvm.proofs.machine.operand.Goals as goal
-
-pub returns-then-depth-stack : goal.returns-then-depth-stack
-returns-then-depth-stack c = operand_is c.args.stack.now c.args.depth _ c.if-depth-stack.true

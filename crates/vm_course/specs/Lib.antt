@@ -1,0 +1,9 @@
+pub mod State
+pub mod Stack
+pub mod Throws
+pub mod Step
+pub mod Course
+pub mod Run
+pub mod Belongs
+pub mod Laws
+pub mod Examples
