@@ -5,5 +5,6 @@ pub mod Step
 pub mod Course
 pub mod Run
 pub mod Belongs
+pub mod Fits
 pub mod Laws
 pub mod Examples

@@ -16,7 +16,7 @@ use Rattle.vm_frames.specs.Views.{IsIndexed}
 below_or_above : (p q : ℕ) → (p ≡ q → ⊥) → (p < q) ⊎ (q < p)
 below_or_above p q apart = grind arith
 
-at_other : (p q : ℕ) → (p ≡ q → ⊥) → is_at (nat_cmp p) q ≡ false
+pub at_other : (p q : ℕ) → (p ≡ q → ⊥) → is_at (nat_cmp p) q ≡ false
 at_other p q apart = ⊎_elim (λ below. ap is_eq (sym (nat_cmp_is p q Less below))) (λ above. ap is_eq (sym (nat_cmp_is p q Greater above))) (below_or_above p q apart)
 
 module _ {A : Type 0} where

@@ -1,11 +1,5 @@
-mod Lists
+pub mod Lists
 mod Closing
 mod Indexed
-mod Fit
-mod Landing
-mod Tops
-mod Taking
-mod Gathered
-mod Answered
-mod Paths
-mod JumpLemmas
+mod Opening
+mod Capturing

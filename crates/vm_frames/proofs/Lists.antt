@@ -9,7 +9,7 @@ use Rattle.std.proofs.lemmas.List.Elements.{All-head, All-tail, All-drop}
 use Rattle.std.specs.Prelude.{reverse, slice_get, slice_set, nat_lt, ◌==◌, IfSome}
 use Rattle.hog_value.specs.Values.{Val, NamesBelow}
 use Rattle.hog_value.specs.declared.value.Value.TheVariants.{Null}
-use Rattle.vm_frames.specs.Here.{first_of}
+use Rattle.vm_frames.specs.Parts.{first_of}
 use Rattle.vm_course.specs.Stack.{value_at, with_value, keep, top_of}
 
 same_suc : (n k : ℕ) → (suc n == suc k) ≡ (n == k)
@@ -51,7 +51,7 @@ module _ {A : Type 0} where
       let all : length ys - 0 ≡ length ys = omega arith in
       ap (λ k. drop k ys) all ∙ drop-whole ys
 
-  slice_get-snoc : (xs : List A) (x : A) (n : ℕ) → slice_get (xs ++ x ∷ []) n ≡ cond (length xs == n) (Some x) (slice_get xs n)
+  pub slice_get-snoc : (xs : List A) (x : A) (n : ℕ) → slice_get (xs ++ x ∷ []) n ≡ cond (length xs == n) (Some x) (slice_get xs n)
   slice_get-snoc [] x zero = refl
   slice_get-snoc [] x (suc n) =
       let other : (0 == suc n) ≡ false = grind (arith, nat_tests) in

@@ -1,3 +1,3 @@
 pub mod Views
-pub mod Here
-pub mod Seen
+pub mod Parts
+pub mod Reading

@@ -2,17 +2,17 @@
 
 ghost use Rattle.std.specs.Prelude.{◌≡◌, ◌≤◌, ◌<◌, [], ◌∷◌, length, OnOk, OnErr};
 ghost use Rattle.vm_course.specs.Stack.{keep};
-ghost use Rattle.vm_frames.specs.Here.{first_of, others_of};
+ghost use Rattle.vm_frames.specs.Parts.{first_of, others_of};
 
 use std::alloc::{AllocError, Global};
 use std::marker::Model;
 
 /// A call: the place of its next operation, where its locals begin on the stack, and the cell of its function.
 #[derive(Clone, Copy)]
-pub(crate) struct Frame {
-    pub(crate) place: u32,
-    pub(crate) base: u32,
-    pub(crate) function: Option<u32>,
+pub struct Frame {
+    pub place: u32,
+    pub base: u32,
+    pub function: Option<u32>,
 }
 
 impl Model for Frame {
@@ -27,7 +27,7 @@ impl Model for Frame {
 
 /// Calls, at most 256. Contracts see the list of them, with the innermost first.
 #[derive(Drop)]
-pub(crate) struct Frames {
+pub struct Frames {
     list: Vec<Frame>,
 }
 
@@ -44,7 +44,7 @@ impl Model for Frames {
 
 impl Frames {
     /// No calls. Takes no memory.
-    pub(crate) fn new(alloc: Global) -> Frames
+    pub fn new(alloc: Global) -> Frames
         ensures { result ≡ [] }
     {
         Frames {
@@ -53,7 +53,7 @@ impl Frames {
     }
 
     /// How many calls there are. Takes no memory.
-    pub(crate) fn len(&self) -> u32
+    pub fn len(&self) -> u32
         ensures count { result ≡ length self.now }
         ensures few { result ≤ 256 }
     {
@@ -61,7 +61,7 @@ impl Frames {
     }
 
     /// Adds a call.
-    pub(crate) fn push(&mut self, frame: Frame) -> Result<(), AllocError>
+    pub fn push(&mut self, frame: Frame) -> Result<(), AllocError>
         requires { length self.old < 256 }
         ensures ok { OnOk result (self.new ≡ frame ∷ self.old) }
         ensures err { OnErr result (self.new ≡ self.old) }
@@ -71,7 +71,7 @@ impl Frames {
     }
 
     /// Takes the innermost call away. Takes no memory.
-    pub(crate) fn pop(&mut self) -> Option<Frame>
+    pub fn pop(&mut self) -> Option<Frame>
         ensures last { result ≡ first_of self.old }
         ensures rest { self.new ≡ others_of self.old }
     {
@@ -79,7 +79,7 @@ impl Frames {
     }
 
     /// Keeps the outermost calls. Takes no memory.
-    pub(crate) fn keep(&mut self, count: u32)
+    pub fn keep(&mut self, count: u32)
         ensures { self.new ≡ keep count self.old }
     {
         self.list.truncate(count as usize);

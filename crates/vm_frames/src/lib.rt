@@ -1,19 +1,16 @@
-//! The machine: its state, its steps, and the operations that run.
-//! Stands on hog_ops, hog_operators (what operators give), hog_meaning, hog_library, hog_json and hog_value.
-//! specs/State.antt says what the machine holds, Stack.antt how values come and go, Throws.antt where a throw lands,
-//! Step.antt what each operation does, and Course.antt the machine after so many operations, which is what is
-//! used above. Each operation that runs leaves the state that its definition says; want of memory alone is free.
+//! The parts of a machine: its stack, its frames, its throw frames and its upvalues.
+//! Stands on vm_course, which says what a machine holds and does, hog_ops and hog_value.
+//! Contracts see each part as the list that the definitions of vm_course speak of, whatever holds it.
+//! Above, the machine's operations are made of the calls of the four types.
+//! No call but those that answer `AllocError` takes memory.
 #![tactic(auto)]
 
-mod frames;
-mod functions;
-mod gathers;
-mod globals;
-mod jumps;
-mod machine;
-mod natives;
-mod stack;
-mod throwing;
-mod throws;
-mod upvalues;
-mod values;
+pub mod frames;
+pub mod stack;
+pub mod throws;
+pub mod upvalues;
+
+pub use frames::{Frame, Frames};
+pub use stack::Stack;
+pub use throws::{ThrowFrame, Throws};
+pub use upvalues::{Upvalue, Upvalues};

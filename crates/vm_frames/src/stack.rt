@@ -10,7 +10,7 @@ use std::marker::Model;
 
 /// Values, fewer than 2^32. Contracts see the list of them, with the top first.
 #[derive(Drop)]
-pub(crate) struct Stack {
+pub struct Stack {
     values: Vec<Value>,
 }
 
@@ -27,7 +27,7 @@ impl Model for Stack {
 
 impl Stack {
     /// No values. Takes no memory.
-    pub(crate) fn new(alloc: Global) -> Stack
+    pub fn new(alloc: Global) -> Stack
         ensures { result ≡ [] }
     {
         Stack {
@@ -36,14 +36,14 @@ impl Stack {
     }
 
     /// How many values there are. Takes no memory.
-    pub(crate) fn len(&self) -> u32
+    pub fn len(&self) -> u32
         ensures { result ≡ length self.now }
     {
         self.values.len() as u32
     }
 
     /// The value at a place, counted from the bottom. Takes no memory.
-    pub(crate) fn at(&self, place: usize) -> Option<Value>
+    pub fn at(&self, place: usize) -> Option<Value>
         ensures value { result ≡ value_at self.now place }
         ensures names { (n : ℕ) → All (NamesBelow n) self.now → IfSome result (NamesBelow n) }
     {
@@ -55,7 +55,7 @@ impl Stack {
 
     /// The topmost operand of the lowest `len` values, and how many values stand under it. Below `floor` there is none: it
     /// is null then. Takes no memory.
-    pub(crate) fn top(&self, floor: u32, len: u32) -> (Value, u32)
+    pub fn top(&self, floor: u32, len: u32) -> (Value, u32)
         requires { len ≤ length self.now }
         ensures is { top_of floor (keep len self.now) ≡ (result.0, keep result.1 self.now) }
         ensures within { result.1 ≤ len }
@@ -68,14 +68,14 @@ impl Stack {
     }
 
     /// Keeps the lowest `len` values. Takes no memory.
-    pub(crate) fn keep(&mut self, len: u32)
+    pub fn keep(&mut self, len: u32)
         ensures { self.new ≡ keep len self.old }
     {
         self.values.truncate(len as usize);
     }
 
     /// Adds a value on top.
-    pub(crate) fn push(&mut self, v: Value) -> Result<(), AllocError>
+    pub fn push(&mut self, v: Value) -> Result<(), AllocError>
         ensures ok { OnOk result (self.new ≡ v ∷ self.old) }
         ensures err { OnErr result (self.new ≡ self.old) }
     {
@@ -87,7 +87,7 @@ impl Stack {
     }
 
     /// Sets the value at a place, counted from the bottom; where there is none nothing changes. Takes no memory.
-    pub(crate) fn set(&mut self, place: usize, v: Value)
+    pub fn set(&mut self, place: usize, v: Value)
         ensures { self.new ≡ with_value self.old place v }
     {
         if place < self.values.len() {
@@ -97,7 +97,7 @@ impl Stack {
 
     /// So many operands, the topmost first, and how many values stand under them. Below `floor` there are none: they are
     /// null then.
-    pub(crate) fn popped(
+    pub fn popped(
         &self,
         alloc: Global,
         floor: u32,

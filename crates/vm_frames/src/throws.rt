@@ -2,7 +2,7 @@
 
 ghost use Rattle.std.specs.Prelude.{◌≡◌, [], ◌∷◌, OnOk, OnErr};
 ghost use Rattle.vm_course.specs.Stack.{height_of};
-ghost use Rattle.vm_frames.specs.Here.{first_of, others_of};
+ghost use Rattle.vm_frames.specs.Parts.{first_of, others_of};
 ghost use Rattle.vm_course.specs.Step.{throws_around, without_try};
 
 use std::alloc::{AllocError, Global};
@@ -10,10 +10,10 @@ use std::marker::Model;
 
 /// Where a throw lands: how many frames are left then, how long the stack is, and the place that goes on.
 #[derive(Clone, Copy)]
-pub(crate) struct ThrowFrame {
-    pub(crate) frames: u32,
-    pub(crate) height: u32,
-    pub(crate) catch: u32,
+pub struct ThrowFrame {
+    pub frames: u32,
+    pub height: u32,
+    pub catch: u32,
 }
 
 impl Model for ThrowFrame {
@@ -28,7 +28,7 @@ impl Model for ThrowFrame {
 
 /// Throw frames. Contracts see the list of them, with the last first.
 #[derive(Drop)]
-pub(crate) struct Throws {
+pub struct Throws {
     list: Vec<ThrowFrame>,
 }
 
@@ -43,7 +43,7 @@ impl Model for Throws {
 
 impl Throws {
     /// No throw frames. Takes no memory.
-    pub(crate) fn new(alloc: Global) -> Throws
+    pub fn new(alloc: Global) -> Throws
         ensures { result ≡ [] }
     {
         Throws {
@@ -52,7 +52,7 @@ impl Throws {
     }
 
     /// The height below which a frame with this number has no operands by its last throw frame. Takes no memory.
-    pub(crate) fn height(&self, frames: u32) -> u32
+    pub fn height(&self, frames: u32) -> u32
         ensures { result ≡ height_of frames self.now }
     {
         match self.list.last() {
@@ -62,14 +62,14 @@ impl Throws {
     }
 
     /// The last throw frame. Takes no memory.
-    pub(crate) fn last(&self) -> Option<ThrowFrame>
+    pub fn last(&self) -> Option<ThrowFrame>
         ensures { result ≡ first_of self.now }
     {
         self.list.last().copied()
     }
 
     /// Adds a throw frame.
-    pub(crate) fn push(&mut self, t: ThrowFrame) -> Result<(), AllocError>
+    pub fn push(&mut self, t: ThrowFrame) -> Result<(), AllocError>
         ensures ok { OnOk result (self.new ≡ t ∷ self.old) }
         ensures err { OnErr result (self.new ≡ self.old) }
     {
@@ -78,14 +78,14 @@ impl Throws {
     }
 
     /// Takes all throw frames away. Takes no memory.
-    pub(crate) fn clear(&mut self)
+    pub fn clear(&mut self)
         ensures { self.new ≡ [] }
     {
         self.list.clear();
     }
 
     /// Takes the last throw frame away. Takes no memory.
-    pub(crate) fn pop(&mut self) -> Option<ThrowFrame>
+    pub fn pop(&mut self) -> Option<ThrowFrame>
         ensures last { result ≡ first_of self.old }
         ensures rest { self.new ≡ others_of self.old }
     {
@@ -93,7 +93,7 @@ impl Throws {
     }
 
     /// Takes the last throw frame away where it belongs to the frame with this number. Takes no memory.
-    pub(crate) fn pop_of(&mut self, frames: u32)
+    pub fn pop_of(&mut self, frames: u32)
         ensures { self.new ≡ without_try frames self.old }
     {
         if let Some(t) = self.list.last()
@@ -104,7 +104,7 @@ impl Throws {
     }
 
     /// Keeps the throw frames of the frames below one with this number. Takes no memory.
-    pub(crate) fn keep_around(&mut self, frames: u32)
+    pub fn keep_around(&mut self, frames: u32)
         ensures { self.new ≡ throws_around frames self.old }
     {
         while let Some(t) = self.list.last()

@@ -1,11 +1,11 @@
 //! Variables that functions have captured.
 
-ghost use Rattle.std.specs.Prelude.{◌≡◌, ◌<◌, ◌≤◌, ℕ, [], All, length, map, slice_get, slice_set, option_map, IfOk, IfNone, IfSome, Some, None};
+ghost use Rattle.std.specs.Prelude.{◌≡◌, ◌<◌, ◌≤◌, ◌^◌, ℕ, [], All, length, map, slice_get, slice_set, option_map, IfOk, IfNone, IfSome, Some, None};
 ghost use Rattle.std.specs.BTreeMap.{get, Updates, IsUnchanged, btree_map_len};
 ghost use Rattle.std.specs.Ordering.{nat_cmp};
 ghost use Rattle.hog_value.specs.Values.{Val};
 ghost use Rattle.vm_course.specs.State.{Frame as FrameView, Closed as Shut};
-ghost use Rattle.vm_frames.specs.Here.{ClosedBelow};
+ghost use Rattle.vm_frames.specs.Parts.{ClosedBelow};
 ghost use Rattle.vm_course.specs.Stack.{close, find_open, or_opened, or_closed, capture_one, capture_all};
 ghost use Rattle.vm_frames.specs.Views.{upvalue_of};
 
@@ -19,7 +19,7 @@ use std::marker::Model;
 
 /// An upvalue: the place on the stack where its variable stands, or the value that it has taken along.
 #[derive(Clone, Copy)]
-pub(crate) enum Upvalue {
+pub enum Upvalue {
     Opened(u32),
     Closed(Value),
 }
@@ -27,7 +27,7 @@ pub(crate) enum Upvalue {
 /// Upvalues, fewer than 2^32, by their numbers, and the numbers of those that are open by their places, of which no two
 /// are the same. Contracts see the list of the upvalues.
 #[derive(Drop)]
-pub(crate) struct Upvalues {
+pub struct Upvalues {
     list: Vec<Upvalue>,
     open: BTreeMap<u32, u32>,
 }
@@ -63,7 +63,7 @@ fn take_last(open: &mut BTreeMap<u32, u32>, height: u32) -> Option<(u32, u32)>
 
 impl Upvalues {
     /// No upvalues. Takes no memory.
-    pub(crate) fn new(alloc: Global) -> Upvalues
+    pub fn new(alloc: Global) -> Upvalues
         ensures { result ≡ [] }
     {
         Upvalues {
@@ -73,7 +73,7 @@ impl Upvalues {
     }
 
     /// The upvalue with a number. Takes no memory.
-    pub(crate) fn get(&self, number: u32) -> Option<Upvalue>
+    pub fn get(&self, number: u32) -> Option<Upvalue>
         ensures value { option_map upvalue_of result ≡ slice_get self.now number }
         ensures names { (n : ℕ) → All (ClosedBelow n) self.now → IfSome result (λ u. ClosedBelow n (upvalue_of u)) }
     {
@@ -88,7 +88,7 @@ impl Upvalues {
     }
 
     /// Closes the upvalues that are open at a height or above it: each takes the value at its place along. Takes no memory.
-    pub(crate) fn close(&mut self, height: u32, stack: &Stack)
+    pub fn close(&mut self, height: u32, stack: &Stack)
         ensures { self.new ≡ map (close height stack.now) self.old }
     {
         while let Some((place, number)) = take_last(&mut self.open, height) {
@@ -98,10 +98,108 @@ impl Upvalues {
     }
 
     /// Sets what a closed upvalue has taken along. Takes no memory.
-    pub(crate) fn set(&mut self, number: u32, v: Value)
+    pub fn set(&mut self, number: u32, v: Value)
         requires { (old : Val) × (slice_get self.old number ≡ Some (Shut old)) }
         ensures { self.new ≡ slice_set self.old number (Shut v) }
     {
         self.list[number as usize] = Upvalue::Closed(v);
+    }
+
+    /// Adds a closed upvalue of null; its number.
+    fn add_null(&mut self) -> Result<u32, AllocError>
+        ensures { IfOk result (λ n. (n, self.new) ≡ or_closed self.old None) }
+    {
+        let number = self.list.len();
+        if number >= u32::MAX as usize {
+            return Err(AllocError);
+        }
+        self.list.push(Upvalue::Closed(Value::Null))?;
+        Ok(number as u32)
+    }
+
+    /// The number of the upvalue that is open at a place, or of a new one.
+    fn open_at(&mut self, place: u32) -> Result<u32, AllocError>
+        ensures { IfOk result (λ n. (n, self.new) ≡ or_opened place self.old (find_open self.old place)) }
+    {
+        match self.number_at(place) {
+            Some(number) => Ok(number),
+            None => self.add_open(place),
+        }
+    }
+
+    /// The number of the upvalue that is open at a place. Takes no memory.
+    fn number_at(&self, place: u32) -> Option<u32>
+        ensures { result ≡ find_open self.now place }
+    {
+        self.open.get(&place).copied()
+    }
+
+    /// Adds an upvalue that is open at a place where none is; its number.
+    fn add_open(&mut self, place: u32) -> Result<u32, AllocError>
+        requires { find_open self.old place ≡ None }
+        ensures { IfOk result (λ n. (n, self.new) ≡ or_opened place self.old None) }
+    {
+        let number = self.list.len();
+        if number >= u32::MAX as usize {
+            return Err(AllocError);
+        }
+        self.list.reserve(1)?;
+        self.open.insert(place, number as u32)?;
+        match self.list.push(Upvalue::Opened(place)) {
+            Ok(()) => Ok(number as u32),
+            Err(_) => unreachable!(),
+        }
+    }
+
+    /// The number of the upvalue that is captured of a frame whose locals begin at `base`; the stack has `height` values.
+    fn capture(
+        &mut self,
+        height: usize,
+        base: u32,
+        captured: &[u32],
+        c: Capture,
+    ) -> Result<u32, AllocError>
+        requires { height ≤ 2 ^ 32 }
+        ensures { IfOk result (λ n. (f : FrameView) → f.base ≡ base → (n, self.new) ≡ capture_one height f captured.now c self.old) }
+    {
+        if !c.local {
+            return self.capture_upvalue(captured, c.index);
+        }
+        let place = base as usize + c.index as usize;
+        if place < height {
+            return self.open_at(place as u32);
+        }
+        self.add_null()
+    }
+
+    /// The number that a function has captured at an index; where there is none, that of a new closed upvalue of null.
+    fn capture_upvalue(&mut self, captured: &[u32], index: u32) -> Result<u32, AllocError>
+        ensures { IfOk result (λ n. (n, self.new) ≡ or_closed self.old (slice_get captured.now index)) }
+    {
+        match captured.get(index as usize) {
+            Some(number) => Ok(*number),
+            None => self.add_null(),
+        }
+    }
+
+    /// The numbers of the upvalues that are captured of a frame whose locals begin at `base`; the stack has `height`
+    /// values.
+    pub fn capture_all(
+        &mut self,
+        alloc: Global,
+        height: usize,
+        base: u32,
+        captured: &[u32],
+        captures: &[Capture],
+    ) -> Result<Vec<u32>, AllocError>
+        requires { height ≤ 2 ^ 32 }
+        ensures { IfOk result (λ ns. (f : FrameView) → f.base ≡ base → capture_all height f captured.now captures.now self.old ≡ (ns.items, self.new)) }
+    {
+        let mut numbers = Vec::new(alloc);
+        for c in captures {
+            let number = self.capture(height, base, captured, *c)?;
+            numbers.push(number)?;
+        }
+        Ok(numbers)
     }
 }

@@ -1,0 +1,9 @@
+use Rattle.std.proofs.Common.{◌≡◌, drop}
+use Rattle.vm_course.specs.State.{Frame}
+use Rattle.vm_course.specs.Stack.{capture_all}
+use Rattle.vm_frames.proofs.Capturing.{numbers_behind}
+use Rattle.vm_frames.proofs.upvalues.Upvalues.capture_all.Given as goal
+
+abbrev pub invariant-loop-c : goal.invariant-loop-c
+invariant-loop-c l = (f : Frame) → f.base ≡ l.base
+    → capture_all l.height f l.captured l.captures l.fn.self ≡ numbers_behind l.height f l.captured (drop l.c-index l.captures) l.numbers.items l.self

@@ -1,0 +1,8 @@
+mod Fit
+mod Landing
+mod Tops
+mod Taking
+mod Gathered
+mod Answered
+mod Paths
+mod JumpLemmas
