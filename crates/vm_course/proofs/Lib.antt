@@ -1,2 +1,5 @@
 mod Slices
 mod CodesFit
+mod CodesHeaps
+mod CodesMoves
+mod CodesGrow

@@ -1,6 +1,6 @@
 //! Laws of codes and of runs.
 
-ghost use Rattle.vm_course.specs.Laws.{SlicesCompose, CodesFit, CodesCount};
+ghost use Rattle.vm_course.specs.Laws.{SlicesCompose, CodesFit, CodesCount, HeapGrows};
 
 /// Two slices, one after the other, leave what one slice of as many operations leaves.
 pub fn slices_compose()
@@ -16,4 +16,9 @@ pub fn codes_fit()
 /// A code has as many places as elements, and the two of its header.
 pub fn codes_count()
     ensures { CodesCount }
+{}
+
+/// No operation takes a cell away from the heap.
+pub fn heap_grows()
+    ensures { HeapGrows }
 {}
