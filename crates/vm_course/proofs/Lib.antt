@@ -1,1 +1,5 @@
 mod Slices
+mod CodesFit
+mod CodesHeaps
+mod CodesMoves
+mod CodesGrow

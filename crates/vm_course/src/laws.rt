@@ -1,8 +1,24 @@
-//! Laws of runs.
+//! Laws of codes and of runs.
 
-ghost use Rattle.vm_course.specs.Laws.{SlicesCompose};
+ghost use Rattle.vm_course.specs.Laws.{SlicesCompose, CodesFit, CodesCount, HeapGrows};
 
 /// Two slices, one after the other, leave what one slice of as many operations leaves.
 pub fn slices_compose()
     ensures { SlicesCompose }
+{}
+
+/// Each operation that stands at a place of a code fits: its end is a place, where it leads is one, and its operands are
+/// those of the table.
+pub fn codes_fit()
+    ensures { CodesFit }
+{}
+
+/// A code has as many places as elements, and the two of its header.
+pub fn codes_count()
+    ensures { CodesCount }
+{}
+
+/// No operation takes a cell away from the heap.
+pub fn heap_grows()
+    ensures { HeapGrows }
 {}
