@@ -1,1 +1,3 @@
 mod Slices
+mod OnCourseReplies
+mod OnCourseRuns
