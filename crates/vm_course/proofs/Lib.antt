@@ -3,3 +3,5 @@ mod CodesFit
 mod CodesHeaps
 mod CodesMoves
 mod CodesGrow
+mod OnCourseReplies
+mod OnCourseRuns
