@@ -5,3 +5,4 @@ pub mod Wholes
 pub mod Spelled
 pub mod Nesting
 pub mod Courses
+pub mod Evaluating

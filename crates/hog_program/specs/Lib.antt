@@ -5,3 +5,4 @@ pub mod Build
 pub mod Placing
 pub mod Program
 pub mod Course
+pub mod Evaluation

@@ -1,6 +1,7 @@
 //! Reading the tree of a source.
 
 ghost use Rattle.std.specs.Prelude.{◌≡◌, ◌≢◌, ◌≤◌, ◌*◌, ℕ, List, length, IfOk, Err};
+ghost use Rattle.hog_bridge.specs.Laws.{IsNamed};
 ghost use Rattle.hog_compiler.specs.Nesting.{deepest, stms_nesting};
 ghost use Rattle.hog_tree.specs.Count.{of_stms};
 ghost use Rattle.hog_tree.specs.Plain.{Stms};
@@ -9,6 +10,7 @@ ghost use Rattle.hog_program.specs.Build.{IsBuilt, IsUnbuilt};
 ghost use Rattle.hog_program.specs.Source.{IsProgram, IsNone};
 ghost use Rattle.hog_program.specs.declared.stop.BuildStop.{BuildStop as Stop};
 
+use crate::laws::built_is_named;
 use crate::prelude::with_prelude;
 use crate::stop::BuildStop;
 use hog_parser::parse;
@@ -45,9 +47,11 @@ pub fn read_tree(alloc: Global, source: &[u8]) -> Result<Tree, BuildStop>
 pub fn read_whole(alloc: Global, source: &[u8]) -> Result<Tree, BuildStop>
     ensures whole { IfOk result (λ tree. IsBuilt source.now (tree_of tree)) }
     ensures low { IfOk result (λ tree. stms_nesting (tree_of tree) ≤ deepest) }
+    ensures named { IfOk result (λ tree. IsNamed (tree_of tree)) }
     ensures unbuilt { (stop : Stop) → result ≡ Err stop → stop ≢ BuildStop.OutOfMemory
         → IsUnbuilt source.now stop }
 {
+    built_is_named();
     if source.len() > MOST_BYTES {
         return Err(BuildStop::TooLong);
     }

@@ -8,8 +8,8 @@ use Rattle.hog_printer.specs.Print.{printed}
 use Rattle.hog_compiler.specs.Code.{code_of}
 use Rattle.bytecode_json.specs.Text.{code_text}
 use Rattle.hog_json.specs.Lines.{ended}
-use Rattle.hog_sums.specs.Meaning.{meaning}
-use Rattle.hog_sums.specs.Sums.{IsSums}
+use Rattle.hog_meaning.specs.Program.{Shows, meaning}
+use Rattle.hog_bridge.specs.Laws.{IsNamed}
 use Rattle.cyclotron_jobs.specs.declared.row.Row.{Row}
 use Rattle.cyclotron_jobs.specs.declared.entry.Entry.{Entry}
 use Rattle.script_reader.specs.Script.{IsNoScript, IsScript}
@@ -20,7 +20,7 @@ use Rattle.hog_runner.specs.declared.words.Command.{Command}
 use Rattle.hog_runner.specs.declared.words.Command.TheVariants.{Source, Replay}
 use Rattle.hog_runner.specs.declared.words.SourceCommand.{SourceCommand}
 use Rattle.hog_runner.specs.declared.words.SourceCommand.TheVariants.{Eval, Fmt, Compile}
-use Rattle.line_writer.specs.Lines.{output_of}
+use Rattle.line_writer.specs.Lines.{run_output}
 use Rattle.hog_runner.specs.Causes.{cause_of, script_cause}
 
 -- the command of a name
@@ -56,18 +56,22 @@ Rejects Eval text stop = IsUnbuilt text stop
 Rejects Fmt text stop = IsNone text stop
 Rejects Compile text stop = IsUnbuilt text stop
 
--- What a command writes for a program with this tree: the lines of its meaning, the printed tree, or the line of its
--- bytecode. Only programs of sums are run so far.
+-- what is written for all that a program shows
+abbrev pub shows_output : Shows → List ℕ
+shows_output shown = run_output shown.trace shown.end
+
+-- What a command writes for a program with this tree: the lines of its meaning on no globals and no replies, the printed tree,
+-- or the line of its bytecode.
 abbrev pub Gives : SourceCommand → Stms → List ℕ → Type 0
-Gives Eval tree out = IsSums tree × (out ≡ output_of (meaning tree))
+Gives Eval tree out = out ≡ shows_output (meaning tree (codes "{}") [])
 Gives Fmt tree out = out ≡ printed tree
 Gives Compile tree out = out ≡ ended (code_text (code_of tree))
 
--- Why it takes no program with this tree, as the line of the refusal says it.
-abbrev pub Lacks : SourceCommand → Stms → List ℕ → Type 0
-Lacks Eval tree cause = ¬ (IsSums tree) × (cause ≡ codes "not built yet")
-Lacks Fmt tree cause = ⊥
-Lacks Compile tree cause = ⊥
+-- what a program is to be for the command: for running it, one whose names are right
+abbrev pub IsReady : SourceCommand → Stms → Type 0
+IsReady Eval tree = IsNamed tree
+IsReady Fmt tree = Unit {0}
+IsReady Compile tree = Unit {0}
 
 -- what a command writes for a source
 pub record SourceOutputs (command : SourceCommand) (text out : List ℕ) : Type 0 where
@@ -81,8 +85,6 @@ pub data SourceRefuses (command : SourceCommand) (text cause : List ℕ) : Type 
   TooLarge : most_bytes < length text → cause ≡ codes "too large" → SourceRefuses command text cause
   -- it is no program
   NoProgram : length text ≤ most_bytes → (stop : BuildStop) → Rejects command text stop → cause ≡ cause_of stop → SourceRefuses command text cause
-  -- it is a program that the command doesn't take
-  NotTaken : (tree : Stms) → Reads command text tree → Lacks command tree cause → SourceRefuses command text cause
 
 -- ---- scripts
 

@@ -5,7 +5,7 @@ ghost use Rattle.hog_outside.specs.Faults.{Rose};
 ghost use Rattle.hog_compiler.specs.Nesting.{deepest, stms_nesting};
 ghost use Rattle.hog_tree.specs.View.{tree_of};
 ghost use Rattle.hog_program.specs.declared.stop.BuildStop.{BuildStop as Stop};
-ghost use Rattle.hog_runner.specs.Commands.{most_bytes, Reads, Rejects};
+ghost use Rattle.hog_runner.specs.Commands.{most_bytes, IsReady, Reads, Rejects};
 ghost use Rattle.hog_runner.specs.Takes.{TakesAtMost};
 
 use crate::input::{InputStop, read_all};
@@ -59,6 +59,7 @@ impl From<BuildStop> for ProgramStop {
 fn read_text(alloc: Global, command: SourceCommand, text: &[u8]) -> Result<Tree, BuildStop>
     ensures reads { IfOk result (λ tree. Reads command text.now (tree_of tree)) }
     ensures low { IfOk result (λ tree. stms_nesting (tree_of tree) ≤ deepest) }
+    ensures ready { IfOk result (λ tree. IsReady command (tree_of tree)) }
     ensures rejects { (stop : Stop) → result ≡ Err stop → stop ≢ BuildStop.OutOfMemory
         → Rejects command text.now stop }
 {
@@ -77,6 +78,7 @@ pub fn read_program<S: Source>(
     ensures program { IfOk result (λ tree. (xs : List ℕ) → S.left source.old ≡ Some xs
         → Reads command xs (tree_of tree)) }
     ensures low { IfOk result (λ tree. stms_nesting (tree_of tree) ≤ deepest) }
+    ensures ready { IfOk result (λ tree. IsReady command (tree_of tree)) }
     ensures small { IfOk result (λ tree. (xs : List ℕ) → S.left source.old ≡ Some xs
         → length xs ≤ most_bytes) }
     ensures end { OnOk result ((xs : List ℕ) → S.left source.old ≡ Some xs

@@ -1,16 +1,19 @@
 //! The top call: what the program does with its words, its input and its output.
 
 ghost use Rattle.std.specs.Prelude.{◌≡◌, ◌↔◌, ◌⊎◌, ℕ, ◌+◌, ◌<◌, ◌≤◌};
-ghost use Rattle.std.specs.Prelude.{List, [], length, Some, None, IsSome, IfSome};
+ghost use Rattle.std.specs.Prelude.{List, [], length, Some, None, IsSome, IfSome, IfOk, codes};
 ghost use Rattle.hog_outside.specs.Faults.{Rose};
 ghost use Rattle.hog_compiler.specs.Nesting.{deepest, stms_nesting};
 ghost use Rattle.hog_tree.specs.View.{tree_of};
+ghost use Rattle.hog_bridge.specs.Laws.{IsNamed};
+ghost use Rattle.hog_meaning.specs.Program.{meaning};
+ghost use Rattle.vm_course.specs.Course.{end_in};
 ghost use Rattle.line_writer.specs.Added.{Adds, AddsPrefix, AddsUnless};
 ghost use Rattle.script_reader.specs.declared.step.Step.{Step};
 ghost use Rattle.script_steps.specs.Book.{KeepsTheMeaning};
 ghost use Rattle.script_steps.specs.Plays.{Plays, PlaysPart};
 ghost use Rattle.hog_runner.specs.Causes.{cause_of, script_cause};
-ghost use Rattle.hog_runner.specs.Commands.{command_of, most_bytes, Accepts, Gives, Lacks, Outputs, OutputsPart, Refuses, ScriptOf};
+ghost use Rattle.hog_runner.specs.Commands.{command_of, most_bytes, Accepts, Gives, IsReady, Outputs, OutputsPart, Refuses, ScriptOf};
 ghost use Rattle.hog_runner.specs.Takes.{TakesAtMost};
 ghost use Rattle.hog_runner.specs.Writes.{Writes, WritesPart, refusal};
 ghost use Rattle.hog_runner.specs.declared.words.Command.{Command as Asked};
@@ -24,18 +27,18 @@ use cyclotron_core::QueueState;
 use hog_compiler::compile_tree;
 use hog_outside::{Sink, Source};
 use hog_printer::print_tree;
-use hog_program::BuildStop;
-use hog_program::laws::{built_or_unbuilt, one_tree, one_whole, program_or_none};
+use hog_program::laws::{built_or_unbuilt, program_or_none};
+use hog_program::{BuildStop, evaluate};
 use hog_tree::tree::Tree;
-use hog_value::HogText;
-use hog_sums::evaluate;
-use hog_sums::sums::is_sums;
+use hog_value::{HogText, TextStop};
+use hogvm::StartStop;
 use job_keeper::Keeper;
-use line_writer::{OutputStop, write_line, write_shown, write_whole};
+use line_writer::{OutputStop, write_line, write_run, write_whole};
 use script_reader::laws::script_or_none;
 use script_reader::{Script, ScriptStop};
 use script_steps::{HogCourse, play};
-use std::alloc::Global;
+use std::alloc::{AllocError, Global};
+use vm_operations::Machine;
 
 /// What the program answers: its status, and the queue on which it played, where it is done with a script.
 #[derive(Drop)]
@@ -238,8 +241,6 @@ fn run_source<S: Source, W: Sink>(
     ensures source_count { S.faults source.old ≤ S.faults source.new }
     ensures sink_count { W.faults sink.old ≤ W.faults sink.new }
 {
-    one_tree();
-    one_whole();
     program_or_none();
     built_or_unbuilt();
     match read_program(alloc, command, source) {
@@ -353,13 +354,11 @@ fn replay_script<W: Sink, K: Keeper>(
 
 /// Does what the command asks for with a program. Answers the status.
 fn run<W: Sink>(alloc: Global, sink: &mut W, command: SourceCommand, program: &Tree) -> u8
-    requires { stms_nesting (tree_of program.now) ≤ deepest }
-    ensures statuses { (result ≡ 0) ⊎ ((result ≡ 1) ⊎ ((result ≡ 4) ⊎ (result ≡ 5))) }
+    requires low { stms_nesting (tree_of program.now) ≤ deepest }
+    requires ready { IsReady command (tree_of program.now) }
+    ensures statuses { (result ≡ 0) ⊎ ((result ≡ 4) ⊎ (result ≡ 5)) }
     ensures done { result ≡ 0 → (out : List ℕ) × Gives command (tree_of program.now) out
         × Adds (W.taken sink.old) (W.taken sink.new) out }
-    ensures refused { result ≡ 1 → (cause : List ℕ) × Lacks command (tree_of program.now) cause
-        × AddsUnless (Rose (W.faults sink.old) (W.faults sink.new))
-        (W.taken sink.old) (W.taken sink.new) (refusal cause) }
     ensures failed { result ≡ 4 → Rose (W.faults sink.old) (W.faults sink.new) }
     ensures failed_prefix { result ≡ 4 → (out : List ℕ) × Gives command (tree_of program.now) out
         × AddsPrefix (W.taken sink.old) (W.taken sink.new) out }
@@ -375,14 +374,40 @@ fn run<W: Sink>(alloc: Global, sink: &mut W, command: SourceCommand, program: &T
     }
 }
 
+/// The machine of a program on no globals and no replies, at its end or at a request for which it waits.
+fn evaluated(alloc: Global, program: &Tree) -> Result<Machine, AllocError>
+    requires low { stms_nesting (tree_of program.now) ≤ deepest }
+    requires named { IsNamed (tree_of program.now) }
+    ensures { IfOk result (λ m. meaning (tree_of program.now) (codes "{}") []
+        ≡ record { trace = m.run.state.trace; end = end_in m.run.state.mode }) }
+{
+    let code = compile_tree(alloc, program)?;
+    let globals = no_globals(alloc)?;
+    match evaluate(alloc, &code, &globals) {
+        Ok(machine) => Ok(machine),
+        Err(StartStop::OutOfMemory) => Err(AllocError),
+        Err(StartStop::NotAnObject) => unreachable!(),
+    }
+}
+
+/// The JSON text of no globals.
+fn no_globals(alloc: Global) -> Result<HogText, AllocError>
+    ensures { IfOk result (λ text. text ≡ codes "{}") }
+{
+    match HogText::from_bytes(alloc, b"{}") {
+        Ok(text) => Ok(text),
+        Err(TextStop::OutOfMemory) => Err(AllocError),
+        Err(TextStop::NotUtf8 { at: _ }) => unreachable!(),
+    }
+}
+
 /// Runs a program, and writes what it shows.
 fn run_eval<W: Sink>(alloc: Global, sink: &mut W, program: &Tree) -> u8
-    ensures statuses { (result ≡ 0) ⊎ ((result ≡ 1) ⊎ ((result ≡ 4) ⊎ (result ≡ 5))) }
+    requires low { stms_nesting (tree_of program.now) ≤ deepest }
+    requires named { IsNamed (tree_of program.now) }
+    ensures statuses { (result ≡ 0) ⊎ ((result ≡ 4) ⊎ (result ≡ 5)) }
     ensures done { result ≡ 0 → (out : List ℕ) × Gives SourceCommand.Eval (tree_of program.now) out
         × Adds (W.taken sink.old) (W.taken sink.new) out }
-    ensures refused { result ≡ 1 → (cause : List ℕ) × Lacks SourceCommand.Eval (tree_of program.now) cause
-        × AddsUnless (Rose (W.faults sink.old) (W.faults sink.new))
-        (W.taken sink.old) (W.taken sink.new) (refusal cause) }
     ensures failed { result ≡ 4 → Rose (W.faults sink.old) (W.faults sink.new) }
     ensures failed_prefix { result ≡ 4 → (out : List ℕ) × Gives SourceCommand.Eval (tree_of program.now) out
         × AddsPrefix (W.taken sink.old) (W.taken sink.new) out }
@@ -391,14 +416,10 @@ fn run_eval<W: Sink>(alloc: Global, sink: &mut W, program: &Tree) -> u8
         × AddsPrefix (W.taken sink.old) (W.taken sink.new) out) }
     ensures count { W.faults sink.old ≤ W.faults sink.new }
 {
-    if !is_sums(program) {
-        refuse(sink, b"refused: not built yet\n");
-        return 1;
-    }
-    let Ok(shown) = evaluate(alloc, program) else {
+    let Ok(machine) = evaluated(alloc, program) else {
         return 5;
     };
-    match write_shown(alloc, sink, &shown) {
+    match write_run(alloc, sink, machine.shown()) {
         Ok(()) => 0,
         Err(OutputStop::Failed) => 4,
         Err(OutputStop::OutOfMemory) => 5,
@@ -407,10 +428,9 @@ fn run_eval<W: Sink>(alloc: Global, sink: &mut W, program: &Tree) -> u8
 
 /// Writes the printed text of a program.
 fn run_fmt<W: Sink>(alloc: Global, sink: &mut W, program: &Tree) -> u8
-    ensures statuses { (result ≡ 0) ⊎ ((result ≡ 1) ⊎ ((result ≡ 4) ⊎ (result ≡ 5))) }
+    ensures statuses { (result ≡ 0) ⊎ ((result ≡ 4) ⊎ (result ≡ 5)) }
     ensures done { result ≡ 0 → (out : List ℕ) × Gives SourceCommand.Fmt (tree_of program.now) out
         × Adds (W.taken sink.old) (W.taken sink.new) out }
-    ensures taken { ¬ (result ≡ 1) }
     ensures failed { result ≡ 4 → Rose (W.faults sink.old) (W.faults sink.new) }
     ensures failed_prefix { result ≡ 4 → (out : List ℕ) × Gives SourceCommand.Fmt (tree_of program.now) out
         × AddsPrefix (W.taken sink.old) (W.taken sink.new) out }
@@ -429,10 +449,9 @@ fn run_fmt<W: Sink>(alloc: Global, sink: &mut W, program: &Tree) -> u8
 /// Writes the bytecode of a program on a line.
 fn run_compile<W: Sink>(alloc: Global, sink: &mut W, program: &Tree) -> u8
     requires { stms_nesting (tree_of program.now) ≤ deepest }
-    ensures statuses { (result ≡ 0) ⊎ ((result ≡ 1) ⊎ ((result ≡ 4) ⊎ (result ≡ 5))) }
+    ensures statuses { (result ≡ 0) ⊎ ((result ≡ 4) ⊎ (result ≡ 5)) }
     ensures done { result ≡ 0 → (out : List ℕ) × Gives SourceCommand.Compile (tree_of program.now) out
         × Adds (W.taken sink.old) (W.taken sink.new) out }
-    ensures taken { ¬ (result ≡ 1) }
     ensures failed { result ≡ 4 → Rose (W.faults sink.old) (W.faults sink.new) }
     ensures failed_prefix { result ≡ 4 → (out : List ℕ) × Gives SourceCommand.Compile (tree_of program.now) out
         × AddsPrefix (W.taken sink.old) (W.taken sink.new) out }

@@ -4,7 +4,7 @@ ghost use Rattle.std.specs.Prelude.{◌≡◌, ◌≤◌, ◌++◌, [], ◌∷�
 ghost use Rattle.hog_outside.specs.Faults.{Rose};
 ghost use Rattle.line_writer.specs.Added.{Adds, AddsPrefix};
 ghost use Rattle.hog_json.specs.Lines.{ended, trace_lines};
-ghost use Rattle.line_writer.specs.Lines.{end_lines, output_of};
+ghost use Rattle.line_writer.specs.Lines.{end_lines, output_of, rest_line, run_output};
 
 use hog_json::{end_line, trace_line};
 use hog_outside::{Failed, Sink};
@@ -126,4 +126,33 @@ pub fn write_shown<W: Sink>(alloc: Global, sink: &mut W, shown: &Shown) -> Resul
 {
     write_trace(alloc, sink, shown.trace.items())?;
     write_end(alloc, sink, &shown.end)
+}
+
+/// Writes the line of an end, or that a run waits, where there is none.
+fn write_rest<W: Sink>(alloc: Global, sink: &mut W, end: &Option<End>) -> Result<(), OutputStop>
+    ensures ok { OnOk result (Adds (W.taken sink.old) (W.taken sink.new) (rest_line end.now)) }
+    ensures prefix { AddsPrefix (W.taken sink.old) (W.taken sink.new) (rest_line end.now) }
+    ensures failed { result ≡ Err OutputStop.Failed
+        → Rose (W.faults sink.old) (W.faults sink.new) }
+    ensures count { W.faults sink.old ≤ W.faults sink.new }
+{
+    match end {
+        Some(_) => write_end(alloc, sink, end),
+        None => {
+            write_whole(sink, b"waiting\n")?;
+            Ok(())
+        }
+    }
+}
+
+/// Writes the lines of a run that went as far as it can: its trace, and then its end, or that it waits.
+pub fn write_run<W: Sink>(alloc: Global, sink: &mut W, shown: &Shown) -> Result<(), OutputStop>
+    ensures ok { OnOk result (Adds (W.taken sink.old) (W.taken sink.new) (run_output shown.now.trace shown.now.end)) }
+    ensures prefix { AddsPrefix (W.taken sink.old) (W.taken sink.new) (run_output shown.now.trace shown.now.end) }
+    ensures failed { result ≡ Err OutputStop.Failed
+        → Rose (W.faults sink.old) (W.faults sink.new) }
+    ensures count { W.faults sink.old ≤ W.faults sink.new }
+{
+    write_trace(alloc, sink, shown.trace.items())?;
+    write_rest(alloc, sink, &shown.end)
 }

@@ -75,7 +75,19 @@ fn answers(rt: HostRuntime) -> Result<(), Fail> {
             0,
             "print \"1\"\nprint \"2\"\nresult \"null\"\n",
         ),
-        calm(&["eval"], "x", 1, "refused: not built yet\n"),
+        calm(&["eval"], "return x;", 0, "result \"null\"\n"),
+        calm(
+            &["eval"],
+            "fetch('https://h/');",
+            0,
+            "request \"https://h/\" \"null\"\nwaiting\n",
+        ),
+        calm(
+            &["compile"],
+            "return 1;",
+            0,
+            "[\"_H\",1,33,1,38,31,38]\n",
+        ),
         calm(
             &["compile"],
             "return 1 + 2;",
@@ -130,8 +142,8 @@ fn answers(rt: HostRuntime) -> Result<(), Fail> {
         faulty(two, &[], 1000, &[2], 4, "print \"1\"\n"),
         faulty(two, &[], 14, &[], 4, "print \"1\"\nprin"),
         // A refusal stays one where its line can't be written.
-        faulty("x", &[], 1000, &[1], 1, ""),
-        faulty("x", &[], 3, &[], 1, "ref"),
+        faulty("x := 1;", &[], 1000, &[1], 1, ""),
+        faulty("x := 1;", &[], 3, &[], 1, "ref"),
     ];
     for row in &rows {
         let words = given(alloc, row.words)?;

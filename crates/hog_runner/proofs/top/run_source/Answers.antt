@@ -1,23 +1,17 @@
 use Rattle.std.proofs.Common.{Err, refl, sym, ◌∙◌, ap, subst, inl, inr, ⊎_elim}
 use Rattle.hog_tree.specs.View.{tree_of}
-use Rattle.hog_runner.specs.Commands.{TooLarge, NoProgram, NotTaken}
+use Rattle.hog_runner.specs.Commands.{TooLarge, NoProgram}
 use Rattle.hog_runner.specs.Writes.{refusal}
-use Rattle.hog_runner.proofs.TopLemmas.{Laws, not_both, not_refused, not_lacking, refused_or_none, done_or_none}
+use Rattle.hog_runner.proofs.TopLemmas.{Laws, not_both, not_refused, never_one, played_or_none}
 use Rattle.hog_runner.proofs.top.run_source.Goals as goal
 
 pub returns-in-Ok-clause-refused_line : goal.returns-in-Ok-clause-refused_line
-returns-in-Ok-clause-refused_line g c one xs told =
-    let r = c.run.ensures.refused one in
-    (r.0, NotTaken _ (c.in-Ok.ensures.program xs told) r.1, r.2)
+returns-in-Ok-clause-refused_line g c one xs told = absurd (never_one c.run.result c.run.ensures.statuses one)
 
 pub returns-in-Ok-clause-refused : goal.returns-in-Ok-clause-refused
 returns-in-Ok-clause-refused g c calm xs told cause why =
-    let laws : Laws = record { one_tree = c.one_tree.ensures; one_whole = c.one_whole.ensures; program_or_none = c.program_or_none.ensures; built_or_unbuilt = c.built_or_unbuilt.ensures } in
-    let program = c.in-Ok.ensures.program xs told in
-    let small = c.in-Ok.ensures.small xs told in
-    refused_or_none c.run.result c.run.ensures.statuses
-    (λ zero. let d = c.run.ensures.done zero in not_refused laws c.args.command xs _ program small d.0 cause d.1 why)
-    (λ four. let d = c.run.ensures.failed_prefix four in not_refused laws c.args.command xs _ program small d.0 cause d.1 why)
+    let laws : Laws = record { program_or_none = c.program_or_none.ensures; built_or_unbuilt = c.built_or_unbuilt.ensures } in
+    absurd (not_refused laws c.args.command xs _ (c.in-Ok.ensures.program xs told) (c.in-Ok.ensures.small xs told) cause why)
 
 pub returns-in-Ok-clause-write_failed_prefix : goal.returns-in-Ok-clause-write_failed_prefix
 returns-in-Ok-clause-write_failed_prefix g c four xs told =
@@ -37,11 +31,7 @@ returns-in-Ok-clause-done_output g c zero xs told =
 
 pub returns-in-Ok-clause-complete : goal.returns-in-Ok-clause-complete
 returns-in-Ok-clause-complete g c calm_source calm_sink xs told o =
-    let laws : Laws = record { one_tree = c.one_tree.ensures; one_whole = c.one_whole.ensures; program_or_none = c.program_or_none.ensures; built_or_unbuilt = c.built_or_unbuilt.ensures } in
-    let program = c.in-Ok.ensures.program xs told in
-    done_or_none c.run.result c.run.ensures.statuses
-    (λ one. let r = c.run.ensures.refused one in not_lacking laws c.args.command xs _ program o.0 r.0 o.1 r.1)
-    (λ four. calm_sink (c.run.ensures.failed four))
+    played_or_none c.run.result c.run.ensures.statuses (λ four. calm_sink (c.run.ensures.failed four))
 
 pub returns-in-Err-TooLarge-clause-refused_line : goal.returns-in-Err-TooLarge-clause-refused_line
 returns-in-Err-TooLarge-clause-refused_line g c one xs told =
@@ -57,5 +47,5 @@ returns-in-Err-Refused-clause-refused_line g c one xs told =
 pub returns-in-Err-Refused-clause-complete : goal.returns-in-Err-Refused-clause-complete
 returns-in-Err-Refused-clause-complete g c calm_source calm_sink xs told o =
     let r = c.in-Err-Refused.ensures.refused c.in-Err-Refused.stop (ap Err c.in-Err-Refused.field-0-is) xs told in
-    let laws : Laws = record { one_tree = c.one_tree.ensures; one_whole = c.one_whole.ensures; program_or_none = c.program_or_none.ensures; built_or_unbuilt = c.built_or_unbuilt.ensures } in
+    let laws : Laws = record { program_or_none = c.program_or_none.ensures; built_or_unbuilt = c.built_or_unbuilt.ensures } in
     absurd (not_both laws c.args.command xs o.1.tree c.in-Err-Refused.stop o.1.program r.1)
