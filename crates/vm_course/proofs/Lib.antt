@@ -3,3 +3,4 @@ mod CodesFit
 mod CodesHeaps
 mod CodesMoves
 mod CodesGrow
+mod CodesBelong
