@@ -1,15 +1,13 @@
 -- No operation takes a cell away.
-use Rattle.std.proofs.Common.{◌≡◌, ℕ, ◌+◌, ◌≤◌, List, [], ◌∷◌, length, Some}
-use Rattle.std.specs.Prelude.{slice_get}
+use Rattle.std.proofs.Common.{ℕ, ◌+◌, ◌≤◌, List, [], ◌∷◌, length}
 use Rattle.hog_value.specs.declared.cell.FunCell.{FunCell}
-use Rattle.hog_value.specs.Cells.{CellOf, Text, Array, Dict, Fun, HeapOf}
-use Rattle.hog_ops.specs.Plain.{Op}
+use Rattle.hog_value.specs.Cells.{Text, Array, Dict, Fun, HeapOf}
 use Rattle.hog_ops.specs.Table.{Row, Alone, Counts, Leads, Calls, Spells, Gives, Holds, row, size}
 use Rattle.hog_meaning.specs.World.{Fixed}
-use Rattle.vm_course.specs.State.{Slot, Begins, Frame, ThrowFrame, State}
+use Rattle.vm_course.specs.State.{Slot, Frame, ThrowFrame, State}
 use Rattle.vm_course.specs.Step.{step}
 use Rattle.vm_course.proofs.CodesHeaps.{AllFuns}
-use Rattle.vm_course.proofs.CodesMoves.{FramesAre, CatchesAre, Sound, LeadsTo, Makes, Fitting, step_moves}
+use Rattle.vm_course.proofs.CodesMoves.{FramesAre, CatchesAre, Sound, LeadsTo, Makes, step_moves}
 
 -- nothing is asked of functions or places
 abbrev Any : {A : Type 0} → A → Type 0

@@ -1,10 +1,9 @@
 -- What each operation keeps: places of frames and catches stay such ones, functions too, and the heap loses neither cells nor texts.
 use Rattle.std.proofs.Common.{◌≡◌, ℕ, zero, suc, ◌+◌, ◌-◌, ℤ, pos, negsuc, List, [], ◌∷◌, length, drop, Option, Some, None, Bool, true, false, cond, Result, Ok, Err, refl, sym, subst}
-use Rattle.std.specs.Prelude.{◌&&◌, ◌==◌, nat_lt, nat_le, unwrap_or, option_and_then, slice_get, reverse, count_by}
+use Rattle.std.specs.Prelude.{◌&&◌, ◌==◌, nat_lt, nat_le, unwrap_or, slice_get, reverse, count_by}
 use Rattle.std.proofs.lemmas.Option.{none-some}
 use Rattle.hog_value.specs.declared.cell.FunCell.{FunCell}
 use Rattle.hog_value.specs.declared.native.Native.{Native}
-use Rattle.hog_value.specs.declared.trace.TraceItem.TheVariants.{Printed, Asked}
 use Rattle.hog_value.specs.declared.trace.End.{End}
 use Rattle.hog_value.specs.declared.trace.End.TheVariants as end
 use Rattle.hog_value.specs.declared.value.Kind.{Kind}

@@ -5,3 +5,4 @@ mod CodesMoves
 mod CodesGrow
 mod OnCourseReplies
 mod OnCourseRuns
+mod CodesBelong

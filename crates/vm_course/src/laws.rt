@@ -1,6 +1,6 @@
 //! Laws of codes and of runs.
 
-ghost use Rattle.vm_course.specs.Laws.{SlicesCompose, CodesFit, CodesCount, HeapGrows, BeginsOnCourse, SlicesOnCourse, RepliesOnCourse};
+ghost use Rattle.vm_course.specs.Laws.{SlicesCompose, CodesFit, CodesCount, HeapGrows, BeginsBelonging, KeepsBelonging, SlicesBelong, RepliesBelong, BeginsOnCourse, SlicesOnCourse, RepliesOnCourse};
 
 /// Two slices, one after the other, leave what one slice of as many operations leaves.
 pub fn slices_compose()
@@ -21,6 +21,27 @@ pub fn codes_count()
 /// No operation takes a cell away from the heap.
 pub fn heap_grows()
     ensures { HeapGrows }
+{}
+
+/// A run begins as one that belongs to its code: its places are places of the code, the places of its functions' cells are
+/// those of bodies, and its first cells are the code's literals, in order.
+pub fn begins_belonging()
+    ensures { BeginsBelonging }
+{}
+
+/// One operation more leaves a run that belongs to its code one that does.
+pub fn keeps_belonging()
+    ensures { KeepsBelonging }
+{}
+
+/// So does a slice.
+pub fn slices_belong()
+    ensures { SlicesBelong }
+{}
+
+/// And so does a reply that is taken in.
+pub fn replies_belong()
+    ensures { RepliesBelong }
 {}
 
 /// A run that begins is on the machine's course, on any replies.
