@@ -3,3 +3,7 @@ pub mod Plain
 pub mod Loading
 pub mod Exact
 pub mod Formats
+mod Alls
+mod HeapsStand
+mod NativesStand
+mod OperatorsStand
