@@ -7,3 +7,6 @@ mod Alls
 mod HeapsStand
 mod NativesStand
 mod OperatorsStand
+mod FramesStand
+mod UpvaluesStand
+mod StatesStand
