@@ -10,3 +10,4 @@ mod OperatorsStand
 mod FramesStand
 mod UpvaluesStand
 mod StatesStand
+mod ActsStand

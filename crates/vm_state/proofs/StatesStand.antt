@@ -56,29 +56,29 @@ pub record StateStands (fixed : Fixed) (s : State) : Type 0 where
   pub globals : is_some (pairs_at s.heap fixed.globals) ≡ true
   pub literals : length fixed.literals < length s.heap
 
-calls_stand_up : (h : HeapOf FunCell) (fs : List Frame) (height other : ℕ) (ts : List ThrowFrame) → CallsStand h fs height ts → height ≤ other → CallsStand h fs other ts
+pub calls_stand_up : (h : HeapOf FunCell) (fs : List Frame) (height other : ℕ) (ts : List ThrowFrame) → CallsStand h fs height ts → height ≤ other → CallsStand h fs other ts
 calls_stand_up h [] height other ts c le = c
 calls_stand_up h (f ∷ fs) height other ts c le = calls_up h f.base f.function fs height other ts c le
 
-length-keep : {A : Type 0} (n : ℕ) (xs : List A) → n ≤ length xs → length (keep n xs) ≡ n
+pub length-keep : {A : Type 0} (n : ℕ) (xs : List A) → n ≤ length xs → length (keep n xs) ≡ n
 length-keep n xs le = let long = length-drop (length xs - n) xs in omega (arith, long, le)
 
 kept_below : (n : ℕ) (fs : List Frame) → length (keep n fs) ≤ length fs
 kept_below n fs = let long = length-drop (length fs - n) fs in omega (arith, long)
 
 module _ (fixed : Fixed) where
-  abbrev Stand : State → Type 0
+  abbrev pub Stand : State → Type 0
   Stand s = StateStands fixed s
 
   -- parts of a state that are replaced
 
-  ends_stand : (e : End) (s : State) → Stand s → Stand (ends e s)
+  pub ends_stand : (e : End) (s : State) → Stand s → Stand (ends e s)
   ends_stand e s st = record {
     heap = st.heap; turns = st.turns; stack = st.stack; upvalues = st.upvalues; calls = st.calls; deep = st.deep; asked = st.asked; waits = refl;
     globals = st.globals; literals = st.literals;
   }
 
-  heap_stands : (s : State) (h : HeapOf FunCell) (units : ℕ) → Stand s → HeapStands (length s.upvalues) h units → Keeps s.heap h → Stand (with_heap h units s)
+  pub heap_stands : (s : State) (h : HeapOf FunCell) (units : ℕ) → Stand s → HeapStands (length s.upvalues) h units → Keeps s.heap h → Stand (with_heap h units s)
   heap_stands s h units st new k =
       let more = k.cells in
       let literals = st.literals in
@@ -95,13 +95,13 @@ module _ (fixed : Fixed) where
         literals = omega (arith, more, literals);
       }
 
-  spent_stands : (s : State) (m : Spent) → Stand s → HeapStands (length s.upvalues) s.heap m.units → m.turns ≤ max_turns → Stand (with_spent m s)
+  pub spent_stands : (s : State) (m : Spent) → Stand s → HeapStands (length s.upvalues) s.heap m.units → m.turns ≤ max_turns → Stand (with_spent m s)
   spent_stands s m st heap turns = record {
     heap = heap; turns = turns; stack = st.stack; upvalues = st.upvalues; calls = st.calls; deep = st.deep; asked = st.asked; waits = st.waits;
     globals = st.globals; literals = st.literals;
   }
 
-  units_stand : (s : State) (more : ℕ) → Stand s → nat_le (s.units + more) max_units ≡ true → Stand (record s { units = s.units + more })
+  pub units_stand : (s : State) (more : ℕ) → Stand s → nat_le (s.units + more) max_units ≡ true → Stand (record s { units = s.units + more })
   units_stand s more st e =
       let covered = st.heap.covered in
       record {
@@ -110,7 +110,7 @@ module _ (fixed : Fixed) where
         globals = st.globals; literals = st.literals;
       }
 
-  said_stands : (item : TraceItem) (s : State) → Stand s → s.mode ≡ Running → count_by is_request (s.trace ++ item ∷ []) ≤ most_requests → Stand (said item s)
+  pub said_stands : (item : TraceItem) (s : State) → Stand s → s.mode ≡ Running → count_by is_request (s.trace ++ item ∷ []) ≤ most_requests → Stand (said item s)
   said_stands item s st running count = record {
     heap = st.heap; turns = st.turns; stack = st.stack; upvalues = st.upvalues; calls = st.calls; deep = st.deep;
     asked = count;
@@ -118,7 +118,7 @@ module _ (fixed : Fixed) where
     globals = st.globals; literals = st.literals;
   }
 
-  cut_stands : (s : State) (rest : List Val) (ks : List Frame) (ts : List ThrowFrame) → Stand s → AllByRecursion (NamesBelow (length s.heap)) rest → CallsStand s.heap ks (length rest) ts → length ks ≤ suc max_depth
+  pub cut_stands : (s : State) (rest : List Val) (ks : List Frame) (ts : List ThrowFrame) → Stand s → AllByRecursion (NamesBelow (length s.heap)) rest → CallsStand s.heap ks (length rest) ts → length ks ≤ suc max_depth
       → Stand (record (cut_to rest s) { frames = ks; throws = ts })
   cut_stands s rest ks ts st named calls deep = record {
     heap = subst (λ u. HeapStands u s.heap s.units) (sym (length-map s.upvalues (close (length rest) s.stack))) st.heap;
@@ -133,7 +133,7 @@ module _ (fixed : Fixed) where
     literals = st.literals;
   }
 
-  stacked_stands : (s : State) (stack : List Val) (ks : List Frame) → Stand s → AllByRecursion (NamesBelow (length s.heap)) stack → length s.stack ≤ length stack → CallsStand s.heap ks (length stack) s.throws → length ks ≤ suc max_depth
+  pub stacked_stands : (s : State) (stack : List Val) (ks : List Frame) → Stand s → AllByRecursion (NamesBelow (length s.heap)) stack → length s.stack ≤ length stack → CallsStand s.heap ks (length stack) s.throws → length ks ≤ suc max_depth
       → Stand (record s { stack = stack; frames = ks })
   stacked_stands s stack ks st named le calls deep = record {
     heap = st.heap;
@@ -148,10 +148,10 @@ module _ (fixed : Fixed) where
     literals = st.literals;
   }
 
-  push_stands : (v : Val) (s : State) → Stand s → NamesBelow (length s.heap) v → Stand (push v s)
+  pub push_stands : (v : Val) (s : State) → Stand s → NamesBelow (length s.heap) v → Stand (push v s)
   push_stands v s st q = stacked_stands s (v ∷ s.stack) s.frames st (q, st.stack) (omega arith) (calls_stand_up s.heap s.frames (length s.stack) (suc (length s.stack)) s.throws st.calls (omega arith)) st.deep
 
-  set_stands : (s : State) (place : ℕ) (v : Val) → Stand s → NamesBelow (length s.heap) v → Stand (record s { stack = with_value s.stack place v })
+  pub set_stands : (s : State) (place : ℕ) (v : Val) → Stand s → NamesBelow (length s.heap) v → Stand (record s { stack = with_value s.stack place v })
   set_stands s place v st q =
       let long = length-with_value s.stack place v in
       stacked_stands s (with_value s.stack place v) s.frames st (set_named (length s.heap) s.stack place v st.stack q) (omega (arith, long))
@@ -159,7 +159,7 @@ module _ (fixed : Fixed) where
 
   -- throws
 
-  shown_stands : (make : List ℕ → End) (v : Val) (before s : State) → Stand before → Stand s → Stand (ends_shown make v before s)
+  pub shown_stands : (make : List ℕ → End) (v : Val) (before s : State) → Stand before → Stand s → Stand (ends_shown make v before s)
   shown_stands make v before s sb st = go (nat_le (s.units + length (shown s.heap v)) max_units) refl
     where
       go : (b : Bool) → nat_le (s.units + length (shown s.heap v)) max_units ≡ b
@@ -176,7 +176,7 @@ module _ (fixed : Fixed) where
       push_stands v (record (cut_to rest s) { frames = ks; throws = ts })
       (cut_stands s rest ks ts st (all_drop (NamesBelow (length s.heap)) (length s.stack - t.height) s.stack st.stack) (subst (λ n. CallsStand s.heap ks n ts) (sym long) c) deep) q
 
-  throw_stands : (ts : List ThrowFrame) (v : Val) (before s : State) → Stand before → Stand s → CallsStand s.heap s.frames (length s.stack) ts → NamesBelow (length s.heap) v → Stand (throw_to ts v before s)
+  pub throw_stands : (ts : List ThrowFrame) (v : Val) (before s : State) → Stand before → Stand s → CallsStand s.heap s.frames (length s.stack) ts → NamesBelow (length s.heap) v → Stand (throw_to ts v before s)
   throw_stands [] v before s sb st c q = shown_stands end.Threw v before s sb st
   throw_stands (t ∷ ts) v before s sb st c q =
       let l = lands s.heap t ts s.frames (length s.stack) c in
@@ -184,7 +184,7 @@ module _ (fixed : Fixed) where
       let deep = st.deep in
       caught_stands v t ts (keep t.frames s.frames) s st q l.calls l.within (omega (arith, le, deep))
 
-  kind_stands : (kind : Kind) (s : State) → Stand s → Stand (throw_kind kind s)
+  pub kind_stands : (kind : Kind) (s : State) → Stand s → Stand (throw_kind kind s)
   unfolding throw_kind
   kind_stands kind s st = go (thrown kind s.heap s.units) (thrown_stands (length s.upvalues) kind s.heap s.units st.heap)
     where
@@ -193,17 +193,17 @@ module _ (fixed : Fixed) where
       go (op.Throws k) g = ends_stand end.MemorySpent s st
       go op.Spends g = ends_stand end.MemorySpent s st
 
-  result_stands : (r : Result Val Kind) (go : Val → State → State) (s : State) → Stand s → ResultNamed (length s.heap) r → ((v : Val) → NamesBelow (length s.heap) v → Stand (go v s)) → Stand (on_result r go s)
+  pub result_stands : (r : Result Val Kind) (go : Val → State → State) (s : State) → Stand s → ResultNamed (length s.heap) r → ((v : Val) → NamesBelow (length s.heap) v → Stand (go v s)) → Stand (on_result r go s)
   result_stands (Ok v) go s st q k = k v q
   result_stands (Err kind) go s st q k = kind_stands kind s st
 
-  outcome_stands : {A : Type 0} (Q : ℕ → A → Type 0) (o : Outcome FunCell A) (go : A → State → State) (s : State) → Stand s → Stands Q (length s.upvalues) s.heap o
+  pub outcome_stands : {A : Type 0} (Q : ℕ → A → Type 0) (o : Outcome FunCell A) (go : A → State → State) (s : State) → Stand s → Stands Q (length s.upvalues) s.heap o
       → ((a : A) (h : HeapOf FunCell) (units : ℕ) → Stand (with_heap h units s) → length s.heap ≤ length h → Q (length h) a → Stand (go a (with_heap h units s))) → Stand (on_outcome o go s)
   outcome_stands Q (op.Gives a h units) go s st g k = k a h units (heap_stands s h units st g.heap g.keeps) g.keeps.cells g.value
   outcome_stands Q (op.Throws kind) go s st g k = kind_stands kind s st
   outcome_stands Q op.Spends go s st g k = ends_stand end.MemorySpent s st
 
-  turn_stands : (go : State → State) (s : State) → Stand s → (Stand (record s { turns = s.turns + 1 }) → Stand (go (record s { turns = s.turns + 1 }))) → Stand (with_turn go s)
+  pub turn_stands : (go : State → State) (s : State) → Stand s → (Stand (record s { turns = s.turns + 1 }) → Stand (go (record s { turns = s.turns + 1 }))) → Stand (with_turn go s)
   turn_stands go s st k = either (nat_lt s.turns max_turns) refl
     where
       either : (b : Bool) → nat_lt s.turns max_turns ≡ b → Stand (cond b (go (record s { turns = s.turns + 1 })) (ends end.TurnsSpent s))
