@@ -4,3 +4,5 @@ mod CodesHeaps
 mod CodesMoves
 mod CodesGrow
 mod CodesBelong
+mod OnCourseReplies
+mod OnCourseRuns

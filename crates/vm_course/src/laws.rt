@@ -1,6 +1,6 @@
 //! Laws of codes and of runs.
 
-ghost use Rattle.vm_course.specs.Laws.{SlicesCompose, CodesFit, CodesCount, HeapGrows, BeginsBelonging, KeepsBelonging, SlicesBelong, RepliesBelong};
+ghost use Rattle.vm_course.specs.Laws.{SlicesCompose, CodesFit, CodesCount, HeapGrows, BeginsBelonging, KeepsBelonging, SlicesBelong, RepliesBelong, BeginsOnCourse, SlicesOnCourse, RepliesOnCourse};
 
 /// Two slices, one after the other, leave what one slice of as many operations leaves.
 pub fn slices_compose()
@@ -34,12 +34,27 @@ pub fn keeps_belonging()
     ensures { KeepsBelonging }
 {}
 
-/// So does a slice.
+/// A slice leaves a run that belongs to its code one that does.
 pub fn slices_belong()
     ensures { SlicesBelong }
 {}
 
-/// And so does a reply that is taken in.
+/// A reply that is taken in leaves a run that belongs to a code one that does.
 pub fn replies_belong()
     ensures { RepliesBelong }
+{}
+
+/// A run that begins is on the machine's course, on any replies.
+pub fn begins_on_course()
+    ensures { BeginsOnCourse }
+{}
+
+/// A run on the machine's course is there still after a slice.
+pub fn slices_on_course()
+    ensures { SlicesOnCourse }
+{}
+
+/// A run on the machine's course that waits is there still when it has taken in the next reply.
+pub fn replies_on_course()
+    ensures { RepliesOnCourse }
 {}
