@@ -156,7 +156,7 @@ module _ (u : ℕ) where
       go None = tt
 
   mutual
-    cells_stand : (d : Data) (h : HeapOf FunCell) (units : ℕ) → HeapStands u h units → Stands Named u h (read_cells d h units)
+    pub cells_stand : (d : Data) (h : HeapOf FunCell) (units : ℕ) → HeapStands u h units → Stands Named u h (read_cells d h units)
     cells_stand null h units s = same_stands Named Null h units s tt
     cells_stand (boolean b) h units s = same_stands Named (Truth b) h units s tt
     cells_stand (number n) h units s = same_stands Named (number_read n) h units s (number_named (length h) n)
@@ -175,7 +175,7 @@ module _ (u : ℕ) where
         both_stand AllNamed AllNamed h1 (read_items ds h1 units1) (λ vs. op.Gives (v ∷ vs)) (items_stand ds h1 units1 s1) (λ vs h2 units2 s2 le2 qs.
         same_stands AllNamed (v ∷ vs) h2 units2 s2 (names_more (length h1) (length h2) v le2 q, qs)))
 
-    members_stand : (ms : Members) (h : HeapOf FunCell) (units : ℕ) → HeapStands u h units → Stands PairsNamed u h (read_members ms h units)
+    pub members_stand : (ms : Members) (h : HeapOf FunCell) (units : ℕ) → HeapStands u h units → Stands PairsNamed u h (read_members ms h units)
     members_stand no_members h units s = same_stands PairsNamed [] h units s tt
     members_stand (member k d ms) h units s =
         both_stand Named PairsNamed h (read_cells d h units) _ (cells_stand d h units s) (λ v h1 units1 s1 le q.

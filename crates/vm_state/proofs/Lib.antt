@@ -11,3 +11,4 @@ mod FramesStand
 mod UpvaluesStand
 mod StatesStand
 mod ActsStand
+mod StartsStand
