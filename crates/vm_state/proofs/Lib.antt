@@ -12,3 +12,5 @@ mod UpvaluesStand
 mod StatesStand
 mod ActsStand
 mod StartsStand
+mod IsStates
+mod RunsStand
