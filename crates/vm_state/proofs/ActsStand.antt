@@ -297,9 +297,16 @@ module _ (fixed : Fixed) where
         let st2 = said_stands fixed (Asked request) (with_spent m s) st1 running (omega (arith, count, room)) in
         let st3 = went behind f fs (said (Asked request) (with_spent m s)) e st2 behind rest named le in
         record {
-          heap = st3.heap; turns = st3.turns; stack = st3.stack; upvalues = st3.upvalues; calls = st3.calls; deep = st3.deep; asked = st3.asked;
+          heap = st3.heap;
+          turns = st3.turns;
+          stack = st3.stack;
+          upvalues = st3.upvalues;
+          calls = st3.calls;
+          deep = st3.deep;
+          asked = st3.asked;
           waits = last_asked s.trace request;
-          globals = st3.globals; literals = st3.literals;
+          globals = st3.globals;
+          literals = st3.literals;
         }
 
     call_global_stands : (name : Native) (n : ℕ) → s.mode ≡ Running → Stand fixed (call_global name (here_at behind f fs s) (taken (floor_of f s) n s.stack) s)
@@ -523,8 +530,16 @@ module _ (fixed : Fixed) where
       outcome_stands fixed Named (response r.status r.body s.heap s.units) (λ v s1. push v (record s1 { replies = rs; mode = Running })) s st (response_stands (length s.upvalues) r.status r.body s.heap s.units st.heap)
       (λ v h units st1 more q. push_stands fixed v (record (with_heap h units s) { replies = rs; mode = Running })
       (record {
-        heap = st1.heap; turns = st1.turns; stack = st1.stack; upvalues = st1.upvalues; calls = st1.calls; deep = st1.deep; asked = st1.asked; waits = refl;
-        globals = st1.globals; literals = st1.literals;
+        heap = st1.heap;
+        turns = st1.turns;
+        stack = st1.stack;
+        upvalues = st1.upvalues;
+        calls = st1.calls;
+        deep = st1.deep;
+        asked = st1.asked;
+        waits = refl;
+        globals = st1.globals;
+        literals = st1.literals;
       }) q)
 
   mode_stands : (code : List Slot) (m : Mode) (s : State) → s.mode ≡ m → Stand fixed s → Stand fixed (step_in m fixed code s)

@@ -24,7 +24,6 @@ use Rattle.vm_state.proofs.UpvaluesStand.{UpvalueStands, NotAt, Apart, UpvaluesS
 use Rattle.vm_state.proofs.StatesStand.{StateStands, length-keep}
 
 infixl 35 ◌&◌
-
 ◌&◌ : {a b : Bool} → a ≡ true → b ≡ true → (a && b) ≡ true
 e & f = and_from _ _ e f
 
@@ -297,9 +296,9 @@ unfolding is_state
 is_a_state fixed m st globals =
     let s : State = m.state in
     let counts : counts_stand s ≡ true =
-        le-leb s.turns max_turns st.turns & le-leb s.units max_units st.heap.within & le-leb (8 * length s.heap) s.units st.heap.covered & le-leb (requests_in s.trace) most_requests st.asked in
+    le-leb s.turns max_turns st.turns & le-leb s.units max_units st.heap.within & le-leb (8 * length s.heap) s.units st.heap.covered & le-leb (requests_in s.trace) most_requests st.asked in
     let values : values_stand s ≡ true =
-        all_tested (NamesBelow (length s.heap)) (names (length s.heap)) (value_passes (length s.heap)) (reverse s.stack) (all_back (NamesBelow (length s.heap)) s.stack st.stack)
-        & all_tested (CellStands (length s.heap) (length s.upvalues)) (cell_stands (length s.heap) (length s.upvalues)) (cell_passes (length s.heap) (length s.upvalues)) s.heap st.heap.cells
-        & upvalues_pass (length s.heap) (length s.stack) [] s.upvalues tt st.upvalues.each st.upvalues.apart in
+    all_tested (NamesBelow (length s.heap)) (names (length s.heap)) (value_passes (length s.heap)) (reverse s.stack) (all_back (NamesBelow (length s.heap)) s.stack st.stack)
+    & all_tested (CellStands (length s.heap) (length s.upvalues)) (cell_stands (length s.heap) (length s.upvalues)) (cell_passes (length s.heap) (length s.upvalues)) s.heap st.heap.cells
+    & upvalues_pass (length s.heap) (length s.stack) [] s.upvalues tt st.upvalues.each st.upvalues.apart in
     counts & calls_pass s.heap s.frames (length s.stack) s.throws st.deep st.calls & values & (ap (globals_stand s.heap s.mode) globals ∙ st.globals) & st.waits

@@ -42,8 +42,16 @@ within (c ∷ h) (suc n) e = let lt = within h n e in omega (arith, lt)
 
 other_replies : (fixed : Fixed) (rs : List Reply) (s : State) → Stand fixed s → Stand fixed (with_replies rs s)
 other_replies fixed rs s st = record {
-  heap = st.heap; turns = st.turns; stack = st.stack; upvalues = st.upvalues; calls = st.calls; deep = st.deep; asked = st.asked; waits = st.waits;
-  globals = st.globals; literals = st.literals;
+  heap = st.heap;
+  turns = st.turns;
+  stack = st.stack;
+  upvalues = st.upvalues;
+  calls = st.calls;
+  deep = st.deep;
+  asked = st.asked;
+  waits = st.waits;
+  globals = st.globals;
+  literals = st.literals;
 }
 
 stands : (fixed : Fixed) (r : RunState) → Stand fixed r.state → r.globals ≡ Some fixed.globals → r.state.replies ≡ [] → RunStands r
@@ -78,8 +86,8 @@ spent_is r globals state =
     (subst (λ o. RunStands (record r { globals = o; state = started [] op.Spends })) (sym globals) (spent r.ops r.used))
 
 module _ (code : Ops) (globals : List ℕ) (replies : List Reply) where
-  cells : Outcome FunCell Val
-  cells = first_cells (literals_of_code code) globals
+  state_is : (r : RunState) → IsRunOf code globals replies r → r.state ≡ with_replies [] (machine code globals replies (r.ops - 1))
+  state_is r on = ap (λ rs. with_replies rs r.state) on.none_left ∙ ap (with_replies []) on.state
 
   by_cells : (o : Outcome FunCell Val) → StartsStanding (literals_of_code code) replies o → (k : ℕ) (r : RunState) → r.globals ≡ globals_cell o
       → r.state ≡ with_replies [] (steps (fixed_by (literals_of_code code) o) (code_slots code) k (started replies o)) → RunStands r
@@ -94,7 +102,7 @@ module _ (code : Ops) (globals : List ℕ) (replies : List Reply) where
 
   run_stands : AreGlobals globals → (r : RunState) → IsRunOf code globals replies r → RunStands r
   unfolding machine
-  run_stands object r is = by_cells (first_cells (literals_of_code code) globals) (starts_standing (literals_of_code code) globals replies object.0 object.1) (r.ops - 1) r is.cell is.state
+  run_stands object r is = by_cells (first_cells (literals_of_code code) globals) (starts_standing (literals_of_code code) globals replies object.0 object.1) (r.ops - 1) r is.cell (state_is r is)
 
   -- belonging
 
@@ -122,7 +130,7 @@ module _ (code : Ops) (globals : List ℕ) (replies : List Reply) where
       let k : ℕ = r.ops - 1 in
       let there = goes_on is k first (started_belongs o (begins_belonging code globals is)) in
       let after : Fixed → State = λ fixed. steps fixed (code_slots code) k (started replies o) in
-      ap (λ (s : State). belongs code (record r { state = s })) on.state
+      ap (λ (s : State). belongs code (record r { state = s })) (state_is r on)
       ∙ ap (λ (g : Option ℕ). belongs code (record r { globals = g; state = with_replies [] (after (fixed_by (literals_of_code code) o)) })) on.cell
       ∙ ap (λ (fixed : Fixed). belongs code (record r { globals = globals_cell o; state = with_replies [] (after fixed) })) (fixed_same o)
       ∙ there
@@ -132,8 +140,18 @@ runs_are_machines code globals replies r is object on fit =
     let s = run_stands code globals replies object r on in
     record {
       fits = record {
-        ops = fit.ops; turns = s.turns; units = s.units; used = fit.used; asked = s.asked; globals = s.globals; stack = fit.stack; frames = fit.frames;
-        throws = fit.throws; upvalues = fit.upvalues; heap = fit.heap; replies = s.none_left;
+        ops = fit.ops;
+        turns = s.turns;
+        units = s.units;
+        used = fit.used;
+        asked = s.asked;
+        globals = s.globals;
+        stack = fit.stack;
+        frames = fit.frames;
+        throws = fit.throws;
+        upvalues = fit.upvalues;
+        heap = fit.heap;
+        replies = s.none_left;
       };
       state = s.is;
       belongs = run_belongs code globals replies is r on;

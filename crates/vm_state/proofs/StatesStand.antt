@@ -74,8 +74,16 @@ module _ (fixed : Fixed) where
 
   pub ends_stand : (e : End) (s : State) → Stand s → Stand (ends e s)
   ends_stand e s st = record {
-    heap = st.heap; turns = st.turns; stack = st.stack; upvalues = st.upvalues; calls = st.calls; deep = st.deep; asked = st.asked; waits = refl;
-    globals = st.globals; literals = st.literals;
+    heap = st.heap;
+    turns = st.turns;
+    stack = st.stack;
+    upvalues = st.upvalues;
+    calls = st.calls;
+    deep = st.deep;
+    asked = st.asked;
+    waits = refl;
+    globals = st.globals;
+    literals = st.literals;
   }
 
   pub heap_stands : (s : State) (h : HeapOf FunCell) (units : ℕ) → Stand s → HeapStands (length s.upvalues) h units → Keeps s.heap h → Stand (with_heap h units s)
@@ -97,8 +105,16 @@ module _ (fixed : Fixed) where
 
   pub spent_stands : (s : State) (m : Spent) → Stand s → HeapStands (length s.upvalues) s.heap m.units → m.turns ≤ max_turns → Stand (with_spent m s)
   spent_stands s m st heap turns = record {
-    heap = heap; turns = turns; stack = st.stack; upvalues = st.upvalues; calls = st.calls; deep = st.deep; asked = st.asked; waits = st.waits;
-    globals = st.globals; literals = st.literals;
+    heap = heap;
+    turns = turns;
+    stack = st.stack;
+    upvalues = st.upvalues;
+    calls = st.calls;
+    deep = st.deep;
+    asked = st.asked;
+    waits = st.waits;
+    globals = st.globals;
+    literals = st.literals;
   }
 
   pub units_stand : (s : State) (more : ℕ) → Stand s → nat_le (s.units + more) max_units ≡ true → Stand (record s { units = s.units + more })
@@ -106,16 +122,29 @@ module _ (fixed : Fixed) where
       let covered = st.heap.covered in
       record {
         heap = record { cells = st.heap.cells; covered = omega (arith, covered); within = leb-true _ _ e };
-        turns = st.turns; stack = st.stack; upvalues = st.upvalues; calls = st.calls; deep = st.deep; asked = st.asked; waits = st.waits;
-        globals = st.globals; literals = st.literals;
+        turns = st.turns;
+        stack = st.stack;
+        upvalues = st.upvalues;
+        calls = st.calls;
+        deep = st.deep;
+        asked = st.asked;
+        waits = st.waits;
+        globals = st.globals;
+        literals = st.literals;
       }
 
   pub said_stands : (item : TraceItem) (s : State) → Stand s → s.mode ≡ Running → count_by is_request (s.trace ++ item ∷ []) ≤ most_requests → Stand (said item s)
   said_stands item s st running count = record {
-    heap = st.heap; turns = st.turns; stack = st.stack; upvalues = st.upvalues; calls = st.calls; deep = st.deep;
+    heap = st.heap;
+    turns = st.turns;
+    stack = st.stack;
+    upvalues = st.upvalues;
+    calls = st.calls;
+    deep = st.deep;
     asked = count;
     waits = ap (λ m. waits_for m (s.trace ++ item ∷ [])) running;
-    globals = st.globals; literals = st.literals;
+    globals = st.globals;
+    literals = st.literals;
   }
 
   pub cut_stands : (s : State) (rest : List Val) (ks : List Frame) (ts : List ThrowFrame) → Stand s → AllByRecursion (NamesBelow (length s.heap)) rest → CallsStand s.heap ks (length rest) ts → length ks ≤ suc max_depth
@@ -210,7 +239,15 @@ module _ (fixed : Fixed) where
       either true e =
           let lt = ltb-true s.turns max_turns e in
           k (record {
-            heap = st.heap; turns = omega (arith, lt); stack = st.stack; upvalues = st.upvalues; calls = st.calls; deep = st.deep; asked = st.asked; waits = st.waits;
-            globals = st.globals; literals = st.literals;
+            heap = st.heap;
+            turns = omega (arith, lt);
+            stack = st.stack;
+            upvalues = st.upvalues;
+            calls = st.calls;
+            deep = st.deep;
+            asked = st.asked;
+            waits = st.waits;
+            globals = st.globals;
+            literals = st.literals;
           })
       either false e = ends_stand end.TurnsSpent s st
