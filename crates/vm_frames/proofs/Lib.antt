@@ -3,3 +3,4 @@ mod Closing
 mod Indexed
 mod Opening
 mod Capturing
+mod Elements

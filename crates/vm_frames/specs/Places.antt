@@ -1,0 +1,19 @@
+-- What contracts see of the places of a code.
+use Rattle.std.specs.Prelude.{ℕ, List, map}
+use Rattle.hog_ops.specs.View.{op_of}
+use Rattle.vm_course.specs.State as s
+use Rattle.vm_frames.specs.declared.slots.Slot.{Slot}
+use Rattle.vm_frames.specs.declared.slots.Slot.TheVariants.{Begins, BodyEnds, Operand}
+use denote.Ref.{Bor}
+
+abbrev pub slot_of : Slot → s.Slot
+slot_of (Begins op) = s.Begins (op_of op.now)
+slot_of BodyEnds = s.BodyEnds
+slot_of Operand = s.Operand
+
+abbrev pub slots_of : List Slot → List s.Slot
+slots_of xs = map slot_of xs
+
+-- what borrowed texts show
+abbrev pub shown : List (Bor (List ℕ)) → List (List ℕ)
+shown ts = map (λ t. t.now) ts
