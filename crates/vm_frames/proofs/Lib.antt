@@ -4,3 +4,7 @@ mod Indexed
 mod Opening
 mod Capturing
 mod Elements
+mod Texts
+mod Numbered
+mod Fitting
+mod Built

@@ -1,5 +1,8 @@
 -- A code as the machine reads it.
-use Rattle.std.specs.Prelude.{◌≡◌, ℕ, ◌+◌, ◌<◌, ◌^◌, List, length, map, Option, Some, None, slice_get, refl}
+use Rattle.std.specs.Prelude.{◌≡◌, ℕ, ◌+◌, ◌<◌, ◌^◌, List, [], length, map, fold, Option, Some, None, slice_get, option_and_then, refl}
+use Rattle.std.specs.BTreeSet.{insert_key}
+use Rattle.std.specs.Cmp.Lexicographic.{slice_cmp}
+use Rattle.std.specs.Ordering.{nat_cmp}
 use Rattle.std.specs.Coded.{Coded, code_by, coded_ℕ, coded_list, coded_option, coded×}
 use Rattle.hog_ops.specs.Plain.{Op, Ops, NoOp, MoreOp, Str}
 use Rattle.hog_ops.specs.Stored.{coded_ops}
@@ -47,6 +50,10 @@ text_in (Begins o) = spelled o
 text_in BodyEnds = None
 text_in Operand = None
 
+-- the distinct texts in byte order
+abbrev pub distinct : List (List ℕ) → List (List ℕ)
+distinct texts = fold (insert_key (slice_cmp nat_cmp)) [] texts
+
 -- the number of a text among the literals, 0 where there is no text
 abbrev pub number_of : List (List ℕ) → Option (List ℕ) → ℕ
 number_of literals None = 0
@@ -57,7 +64,7 @@ numbers_of literals slots = map (λ s. number_of literals (text_in s)) slots
 
 -- each text is one of the literals
 abbrev pub AllKnown : List (List ℕ) → List Slot → Type 0
-AllKnown literals slots = (place : ℕ) (t : List ℕ) → slice_get slots place ≡ Some (Begins (Str t)) → place_in literals t < length literals
+AllKnown literals slots = (place : ℕ) (t : List ℕ) → option_and_then text_in (slice_get slots place) ≡ Some t → place_in literals t < length literals
 
 -- What a table keeps: there are fewer than 2^32 places, each operation fits, and each text has its number among the literals.
 pub record IsTable (r : Reading) (numbers : List ℕ) : Type 0 where
@@ -78,7 +85,7 @@ code_slot None = Operand
 code_slot (Some NoOp) = BodyEnds
 code_slot (Some (MoreOp o os)) = Begins o
 
-slot_back : (s : Slot) → code_slot (slot_code s) ≡ s
+pub slot_back : (s : Slot) → code_slot (slot_code s) ≡ s
 slot_back (Begins o) = refl
 slot_back BodyEnds = refl
 slot_back Operand = refl

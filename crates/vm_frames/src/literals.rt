@@ -1,15 +1,11 @@
 //! The texts of a code's STRING operations.
 
-ghost use Rattle.std.specs.Prelude.{◌≡◌, ◌<◌, ◌^◌, [], fold, length, IfOk, OnOk};
-ghost use Rattle.std.specs.BTreeSet.{insert_key};
-ghost use Rattle.std.specs.Cmp.Lexicographic.{slice_cmp};
+ghost use Rattle.std.specs.Prelude.{◌≡◌, ◌<◌, ◌^◌, ℕ, List, length, IfOk, Some};
 ghost use Rattle.std.specs.List.{filter_map};
-ghost use Rattle.std.specs.List.Sorted.{IsStrictlySortedBy};
 ghost use Rattle.std.specs.Option.{option_copied};
-ghost use Rattle.std.specs.Ordering.{nat_cmp};
 ghost use Rattle.hog_meaning.specs.Meaning.{place_in};
-ghost use Rattle.vm_frames.specs.Places.{slot_of, slots_of, shown};
-ghost use Rattle.vm_frames.specs.Reading.{text_in, numbers_of, AllKnown};
+ghost use Rattle.vm_frames.specs.Places.{slot_of, slots_of, shown, AreInOrder};
+ghost use Rattle.vm_frames.specs.Reading.{text_in, distinct, number_of, numbers_of, AllKnown};
 
 use crate::slots::Slot;
 use hog_ops::Op;
@@ -30,7 +26,7 @@ fn text_in<'c>(slot: Slot<'c>) -> Option<&'c HogText>
 
 fn literal_set<'c>(alloc: Global, slots: &[Slot<'c>]) -> Result<BTreeSet<&'c str>, AllocError>
     ensures { IfOk result
-        (λ set. shown set.keys ≡ fold (insert_key (slice_cmp nat_cmp)) [] (filter_map text_in (slots_of slots.now))) }
+        (λ set. shown set.keys ≡ distinct (filter_map text_in (slots_of slots.now))) }
 {
     let mut texts = BTreeSet::new(alloc);
     for slot in slots {
@@ -43,11 +39,11 @@ fn literal_set<'c>(alloc: Global, slots: &[Slot<'c>]) -> Result<BTreeSet<&'c str
 
 /// The distinct texts in byte order.
 pub(crate) fn literals<'c>(alloc: Global, slots: &[Slot<'c>]) -> Result<Vec<&'c str>, AllocError>
-    ensures { IfOk result
-        (λ ts. shown ts.items ≡ fold (insert_key (slice_cmp nat_cmp)) [] (filter_map text_in (slots_of slots.now))) }
+    ensures distinct { IfOk result (λ ts. shown ts.items ≡ distinct (filter_map text_in (slots_of slots.now))) }
+    ensures in_order { IfOk result (λ ts. AreInOrder ts.items) }
 {
     let set = literal_set(alloc, slots)?;
-    let mut texts = Vec::new(alloc);
+    let mut texts = Vec::with_capacity(alloc, set.len())?;
     for text in &set {
         texts.push(*text)?;
     }
@@ -57,8 +53,8 @@ pub(crate) fn literals<'c>(alloc: Global, slots: &[Slot<'c>]) -> Result<Vec<&'c 
 /// The number of a text that is there. Takes no memory.
 fn number_of(literals: &[&str], text: &str) -> u32
     requires few { length literals.now < 2 ^ 32 }
-    requires sorted { IsStrictlySortedBy (slice_cmp nat_cmp) (shown literals.now) }
-    requires there { place_in (shown literals.now) text.now < length literals.now }
+    requires in_order { AreInOrder literals.now }
+    requires known { place_in (shown literals.now) text.now < length literals.now }
     ensures { result ≡ place_in (shown literals.now) text.now }
 {
     match literals.binary_search(&text) {
@@ -67,19 +63,29 @@ fn number_of(literals: &[&str], text: &str) -> u32
     }
 }
 
-/// The number of each operation's literal. Every text is there.
+/// The number of the literal of what stands at a place, 0 where it has none. Takes no memory.
+fn number_at(literals: &[&str], slot: Slot) -> u32
+    requires few { length literals.now < 2 ^ 32 }
+    requires in_order { AreInOrder literals.now }
+    requires known { (t : List ℕ) → text_in (slot_of slot) ≡ Some t → place_in (shown literals.now) t < length literals.now }
+    ensures { result ≡ number_of (shown literals.now) (text_in (slot_of slot.entry)) }
+{
+    match text_in(slot) {
+        Some(text) => number_of(literals, text.as_str()),
+        None => 0,
+    }
+}
+
+/// The number of the literal of what stands at each place.
 pub(crate) fn numbers(alloc: Global, slots: &[Slot], literals: &[&str]) -> Result<Vec<u32>, AllocError>
     requires few { length literals.now < 2 ^ 32 }
-    requires sorted { IsStrictlySortedBy (slice_cmp nat_cmp) (shown literals.now) }
-    requires there { AllKnown (shown literals.now) (slots_of slots.now) }
+    requires in_order { AreInOrder literals.now }
+    requires known { AllKnown (shown literals.now) (slots_of slots.now) }
     ensures { IfOk result (λ ns. ns.items ≡ numbers_of (shown literals.now) (slots_of slots.now)) }
 {
-    let mut numbers = Vec::new(alloc);
+    let mut numbers = Vec::with_capacity(alloc, slots.len())?;
     for slot in slots {
-        numbers.push(match text_in(*slot) {
-            Some(text) => number_of(literals, text.as_str()),
-            None => 0,
-        })?;
+        numbers.push(number_at(literals, *slot))?;
     }
     Ok(numbers)
 }

@@ -1,12 +1,14 @@
 //! A code as the machine reads it.
 
-ghost use Rattle.std.specs.Prelude.{◌≡◌, ◌+◌, ◌<◌, ◌^◌, ℕ, List, length, slice_get, IfOk, IfNone, IfSome, Some};
+ghost use Rattle.std.specs.Prelude.{◌≡◌, ◌+◌, ◌<◌, ◌^◌, ℕ, List, length, slice_get, option_map, IfOk, IfNone, IfSome, Some};
 ghost use Rattle.hog_meaning.specs.Meaning.{place_in};
 ghost use Rattle.hog_ops.specs.Plain.{Str};
 ghost use Rattle.hog_ops.specs.Table.{row, size};
 ghost use Rattle.hog_ops.specs.View.{op_of};
 ghost use Rattle.vm_course.specs.Fits.{OpFits};
+ghost use Rattle.vm_course.specs.Laws.{CodesFit, CodesCount};
 ghost use Rattle.vm_course.specs.State.{Begins, params_at};
+ghost use Rattle.vm_frames.specs.Places.{slot_of};
 ghost use Rattle.vm_frames.specs.Reading.{reading_of, BeginsNone, LeadsNear};
 
 use crate::literals::{literals, numbers};
@@ -49,6 +51,14 @@ impl<'c> Model for Table<'c> {
     ghost invariant = { λ t. IsTable (record { slots = slots_of t.slots.items; literals = shown t.literals.items }) t.numbers.items };
 }
 
+fn codes_fit()
+    ensures { CodesFit }
+{}
+
+fn codes_count()
+    ensures { CodesCount }
+{}
+
 impl<'c> Table<'c> {
     /// The table of a code. One of 2^32 - 2 elements or more is answered as want of memory.
     pub fn new(alloc: Global, code: &'c Code) -> Result<Table<'c>, AllocError>
@@ -57,6 +67,9 @@ impl<'c> Table<'c> {
         if code.elements() >= u32::MAX - 1 {
             return Err(AllocError);
         }
+        codes_fit();
+        codes_count();
+        let _ops = code.ops();
         let slots = slots(alloc, code)?;
         let literals = literals(alloc, &slots)?;
         let numbers = numbers(alloc, &slots, &literals)?;
@@ -65,6 +78,13 @@ impl<'c> Table<'c> {
             literals,
             numbers,
         })
+    }
+
+    /// What stands at a place.
+    fn slot(&self, place: u32) -> Option<Slot<'c>>
+        ensures { option_map slot_of result ≡ slice_get self.now.slots place }
+    {
+        self.slots.get(place as usize).copied()
     }
 
     /// The operation that begins at a place. Takes no memory.
@@ -77,9 +97,9 @@ impl<'c> Table<'c> {
         ensures literal { IfSome result (λ b. (t : List ℕ) → op_of b.op.now ≡ Str t → b.literal ≡ place_in self.now.literals t) }
         ensures known { IfSome result (λ b. (t : List ℕ) → op_of b.op.now ≡ Str t → b.literal < length self.now.literals) }
     {
-        match self.slots.get(place as usize) {
+        match self.slot(place) {
             Some(Slot::Begins(op)) => Some(Begin {
-                op: *op,
+                op,
                 behind: place + op.len() as u32,
                 literal: self.numbers[place as usize],
             }),
@@ -91,7 +111,7 @@ impl<'c> Table<'c> {
     pub fn params(&self, place: u32) -> Option<u32>
         ensures { result ≡ params_at self.now.slots place }
     {
-        match self.slots.get(place.saturating_sub(5) as usize) {
+        match self.slot(place.saturating_sub(5)) {
             Some(Slot::Begins(Op::Callable(function))) => Some(function.params),
             _ => None,
         }
