@@ -1,5 +1,5 @@
 -- A table that was built of a code keeps what tables keep.
-use Rattle.std.proofs.Common.{◌≡◌, ◌≤◌, ℕ, ◌+◌, ◌<◌, ◌^◌, List, length, Some, sym, ap, ◌∙◌, subst, arith}
+use Rattle.std.proofs.Common.{◌≡◌, ◌≤◌, ℕ, ◌+◌, ◌<◌, ◌^◌, List, length, Some, sym, ap, ◌∙◌, subst, arith, ap₂}
 use Rattle.std.specs.Prelude.{slice_get}
 use Rattle.std.specs.List.{filter_map}
 use Rattle.std.proofs.lemmas.List.{length-map}
@@ -14,6 +14,9 @@ use Rattle.vm_course.specs.State.{Slot, Begins, code_slots}
 use Rattle.vm_frames.specs.Places.{shown}
 use Rattle.vm_frames.specs.Reading.{Reading, IsTable, AllKnown, text_in, distinct, numbers_of, reading_of}
 use Rattle.vm_frames.proofs.Texts.{all_known, code_texts, distinct_length}
+
+abbrev pub reading : List Slot → List (List ℕ) → Reading
+reading slots literals = record { slots = slots; literals = literals }
 
 module _ (code : Ops) (slots : List Slot) (literals : List (List ℕ)) (counted : CodesCount) (short : span code < 4294967294) (are : slots ≡ code_slots code)
     (lists : literals ≡ distinct (filter_map text_in slots)) where
@@ -37,5 +40,5 @@ module _ (code : Ops) (slots : List Slot) (literals : List (List ℕ)) (counted 
   literals_are : literals ≡ literals_of_code code
   literals_are = lists ∙ ap (λ ss. distinct (filter_map text_in ss)) are ∙ ap distinct (code_texts code)
 
-  pub is_reading : (r : Reading) → r.slots ≡ slots → r.literals ≡ literals → r ≡ reading_of code
-  is_reading r s l = cc (s ∙ are, l ∙ literals_are)
+  pub is_reading : reading slots literals ≡ reading_of code
+  is_reading = ap₂ reading are literals_are

@@ -77,7 +77,11 @@ fn number_at(literals: &[&str], slot: Slot) -> u32
 }
 
 /// The number of the literal of what stands at each place.
-pub(crate) fn numbers(alloc: Global, slots: &[Slot], literals: &[&str]) -> Result<Vec<u32>, AllocError>
+pub(crate) fn numbers(
+    alloc: Global,
+    slots: &[Slot],
+    literals: &[&str],
+) -> Result<Vec<u32>, AllocError>
     requires few { length literals.now < 2 ^ 32 }
     requires in_order { AreInOrder literals.now }
     requires known { AllKnown (shown literals.now) (slots_of slots.now) }

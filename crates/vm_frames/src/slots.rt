@@ -57,7 +57,7 @@ fn add_code<'c>(places: &mut Vec<Slot<'c>>, code: &'c Code) -> Result<(), AllocE
 pub(crate) fn slots<'c>(alloc: Global, code: &'c Code) -> Result<Vec<Slot<'c>>, AllocError>
     ensures { IfOk result (λ v. slots_of v.items ≡ code_slots code.now) }
 {
-    let mut places = Vec::new(alloc);
+    let mut places = Vec::with_capacity(alloc, 2 + code.elements() as usize)?;
     add_operands(&mut places, 2)?;
     add_code(&mut places, code)?;
     Ok(places)

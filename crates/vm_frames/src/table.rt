@@ -6,7 +6,6 @@ ghost use Rattle.hog_ops.specs.Plain.{Str};
 ghost use Rattle.hog_ops.specs.Table.{row, size};
 ghost use Rattle.hog_ops.specs.View.{op_of};
 ghost use Rattle.vm_course.specs.Fits.{OpFits};
-ghost use Rattle.vm_course.specs.Laws.{CodesFit, CodesCount};
 ghost use Rattle.vm_course.specs.State.{Begins, params_at};
 ghost use Rattle.vm_frames.specs.Places.{slot_of};
 ghost use Rattle.vm_frames.specs.Reading.{reading_of, BeginsNone, LeadsNear};
@@ -17,6 +16,7 @@ use hog_ops::{Code, Op};
 use hog_value::HogText;
 use std::alloc::{AllocError, Global};
 use std::marker::Model;
+use vm_course::laws;
 
 /// An operation of a code: the place behind it, and the number of its literal where it is a STRING, 0 where it is not.
 #[derive(Clone, Copy, Drop)]
@@ -51,14 +51,6 @@ impl<'c> Model for Table<'c> {
     ghost invariant = { λ t. IsTable (record { slots = slots_of t.slots.items; literals = shown t.literals.items }) t.numbers.items };
 }
 
-fn codes_fit()
-    ensures { CodesFit }
-{}
-
-fn codes_count()
-    ensures { CodesCount }
-{}
-
 impl<'c> Table<'c> {
     /// The table of a code. One of 2^32 - 2 elements or more is answered as want of memory.
     pub fn new(alloc: Global, code: &'c Code) -> Result<Table<'c>, AllocError>
@@ -67,8 +59,8 @@ impl<'c> Table<'c> {
         if code.elements() >= u32::MAX - 1 {
             return Err(AllocError);
         }
-        codes_fit();
-        codes_count();
+        laws::codes_fit();
+        laws::codes_count();
         let _ops = code.ops();
         let slots = slots(alloc, code)?;
         let literals = literals(alloc, &slots)?;
