@@ -5,3 +5,5 @@ mod Gathered
 mod Answered
 mod Paths
 mod JumpLemmas
+mod Making
+mod Calling
