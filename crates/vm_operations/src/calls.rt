@@ -6,9 +6,11 @@ ghost use Rattle.hog_value.specs.declared.value.Value.TheVariants.{Null as NoVal
 ghost use Rattle.hog_value.specs.declared.cell.FunCell.{FunCell as FunctionCell};
 ghost use Rattle.hog_value.specs.Meters.{max_turns, max_depth};
 ghost use Rattle.hog_value.specs.Values.{NamesBelow};
+ghost use Rattle.hog_meaning.specs.World.{Fixed};
+ghost use Rattle.hog_ops.specs.Plain as o;
 ghost use Rattle.vm_course.specs.Stack.{keep};
 ghost use Rattle.vm_course.specs.Throws.{ends};
-ghost use Rattle.vm_course.specs.Step.{call_function, enter, with_arguments};
+ghost use Rattle.vm_course.specs.Step.{act, call_function, enter, with_arguments};
 ghost use Rattle.vm_frames.specs.Parts.{others_of};
 ghost use Rattle.vm_operations.specs.Here.{here_of};
 ghost use Rattle.vm_operations.specs.Calls.{callee_in};
@@ -18,6 +20,7 @@ use hog_value::meter::{MAX_DEPTH, MAX_TURNS};
 use hog_value::{Cell, End, Kind, Value};
 use std::alloc::{AllocError, Global};
 use vm_frames::frames::Frame;
+use vm_frames::table::Table;
 
 /// A function that is called: its cell, and the place where its body begins.
 #[derive(Clone, Copy)]
@@ -28,7 +31,7 @@ pub(crate) struct Callee {
 
 impl State {
     /// The function that a value is, where it is one. Takes no memory.
-    pub(crate) fn callee(&self, v: Value) -> Option<Callee>
+    fn callee(&self, v: Value) -> Option<Callee>
         ensures { result ≡ callee_in self.now.heap v }
     {
         let Value::Ref(cell) = v else {
@@ -46,8 +49,30 @@ impl State {
         }
     }
 
+    /// CALL_LOCAL
+    pub(crate) fn call_local(
+        &mut self,
+        alloc: Global,
+        behind: u32,
+        n: u32,
+        table: &Table,
+    ) -> Result<(), AllocError>
+        ensures { (fixed : Fixed) → OnOk result (self.new ≡ act fixed table.now.slots (o.CallLocal n) (here_of behind self.old) self.old) }
+    {
+        let floor = self.floor();
+        let all = self.len();
+        let (v, rest) = self.top(floor, all);
+        match self.callee(v) {
+            Some(callee) => {
+                let params = table.params(callee.place).unwrap_or(0);
+                self.call_function(alloc, behind, n, callee, params, rest)
+            }
+            None => self.throw_kind(alloc, Kind::TypeError),
+        }
+    }
+
     /// Calls a function of so many parameters with so many arguments, where so much of the stack is left under its value.
-    pub(crate) fn call_function(
+    fn call_function(
         &mut self,
         alloc: Global,
         behind: u32,
