@@ -1,5 +1,5 @@
 -- Calls of functions.
-use Rattle.std.proofs.Common.{◌≡◌, ◌≤◌, ◌<◌, ◌+◌, ◌-◌, [], ◌∷◌, ◌++◌, ℕ, suc, List, length, Bool, true, false, cond, Option, Some, None, arith, refl, ap, ap₂, sym, ◌∙◌}
+use Rattle.std.proofs.Common.{◌≡◌, ◌≤◌, ◌<◌, ◌+◌, ◌-◌, [], ◌∷◌, ◌++◌, ℕ, List, length, true, false, cond, Option, Some, None, arith, refl, ap, ap₂, sym, ◌∙◌}
 use Rattle.std.proofs.lemmas.Bool.Decides.{nat_tests}
 use Rattle.std.specs.Prelude.{nat_lt, replicate, option_map, unwrap_or}
 use Rattle.hog_value.specs.declared.cell.FunCell.{FunCell}
@@ -12,7 +12,7 @@ use Rattle.vm_course.specs.State.{Slot, Frame, State, params_at}
 use Rattle.vm_course.specs.Throws.{ends, throw_kind, with_turn}
 use Rattle.vm_course.specs.Step.{Here, on_with, with_arguments, enter, call_function, call_found, call_value}
 use Rattle.vm_course.specs.Stack.{keep, floor_of}
-use Rattle.vm_frames.specs.Parts.{innermost, others_of}
+use Rattle.vm_frames.specs.Parts.{innermost}
 use Rattle.vm_operations.specs.Here.{here_of}
 use Rattle.vm_operations.specs.Calls.{callee_of, callee_in}
 use Rattle.vm_operations.specs.declared.calls.Callee.{Callee}

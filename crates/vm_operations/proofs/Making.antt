@@ -1,5 +1,5 @@
 -- New functions.
-use Rattle.std.proofs.Common.{◌≡◌, ◌≤◌, ◌<◌, ◌+◌, ℕ, suc, List, [], ◌∷◌, ◌++◌, length, Bool, true, false, cond, arith, refl, ap, ap₂, sym, ◌∙◌}
+use Rattle.std.proofs.Common.{◌≡◌, ◌≤◌, ◌+◌, ℕ, suc, List, [], ◌∷◌, ◌++◌, length, true, false, cond, arith, ap, ap₂, sym, ◌∙◌}
 use Rattle.std.proofs.lemmas.Bool.Decides.{nat_tests}
 use Rattle.std.specs.Prelude.{nat_le, Option, option_and_then}
 use Rattle.hog_value.specs.declared.cell.FunCell.{FunCell}
@@ -8,7 +8,7 @@ use Rattle.hog_value.specs.declared.value.Value.TheVariants.{Ref}
 use Rattle.hog_value.specs.Values.{Val}
 use Rattle.hog_value.specs.Cells.{Fun, HeapOf}
 use Rattle.hog_value.specs.Meters.{max_units}
-use Rattle.hog_value.specs.Operations.{Outcome, Gives, Spends, made}
+use Rattle.hog_value.specs.Operations.{Gives, Spends, made}
 use Rattle.hog_ops.specs.declared.capture.Capture.{Capture}
 use Rattle.vm_course.specs.State.{Upvalue, State, header, function_at}
 use Rattle.vm_course.specs.Stack.{captured_in, captured_by, capture_all}

@@ -1,5 +1,5 @@
 -- Functions that are called, and what new ones capture.
-use Rattle.std.specs.Prelude.{ℕ, suc, List, length, Option, Some, None, option_map}
+use Rattle.std.specs.Prelude.{ℕ, suc, List, length, Option, None, option_map}
 use Rattle.hog_value.specs.declared.cell.FunCell.{FunCell}
 use Rattle.hog_value.specs.declared.value.Value.TheVariants.{Null, Bool as Truth, Int, Ref}
 use Rattle.hog_value.specs.Values.{Val}

@@ -1,13 +1,11 @@
-use Rattle.std.proofs.Common.{◌≡◌, ◌<◌, ◌≤◌, length, true, false, refl, arith, sym, ap, ◌∙◌}
-use Rattle.hog_value.specs.declared.trace.End.TheVariants.{TurnsSpent}
+use Rattle.std.proofs.Common.{◌<◌, length, refl, arith, ap, ◌∙◌}
 use Rattle.hog_value.specs.Meters.{max_depth}
 use Rattle.vm_course.specs.State.{State}
 use Rattle.vm_course.specs.Stack.{keep}
-use Rattle.vm_course.specs.Throws.{ends}
 use Rattle.vm_course.specs.Step.{enter}
 use Rattle.vm_frames.specs.Parts.{others_of}
 use Rattle.vm_operations.specs.Here.{here_of}
-use Rattle.vm_operations.proofs.Calling.{few_arguments, too_deep, no_turn, entered}
+use Rattle.vm_operations.proofs.Calling.{few_arguments, entered}
 use Rattle.vm_operations.proofs.Landing.{on_ok}
 use Rattle.vm_operations.proofs.state.State.call_function.Goals as goal
 

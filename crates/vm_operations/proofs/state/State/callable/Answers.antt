@@ -1,5 +1,4 @@
-use Rattle.std.proofs.Common.{◌≡◌, ◌+◌, ◌≤◌, false, true, refl, sym, ap, ◌∙◌}
-use Rattle.hog_value.specs.Meters.{max_units}
+use Rattle.std.proofs.Common.{◌≡◌, false, true, sym, ◌∙◌}
 use Rattle.vm_operations.proofs.Landing.{on_ok}
 use Rattle.vm_operations.proofs.Making.{none_fits, function_made}
 use Rattle.vm_operations.proofs.state.State.callable.Goals as goal

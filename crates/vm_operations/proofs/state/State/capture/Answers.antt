@@ -1,8 +1,7 @@
-use Rattle.std.proofs.Common.{◌≡◌, ◌+◌, List, sym, ap, ◌∙◌}
+use Rattle.std.proofs.Common.{◌+◌, sym, ap, ◌∙◌}
 use Rattle.std.proofs.lemmas.Result.{IfOk-weaker}
 use Rattle.vm_course.specs.State.{State}
 use Rattle.vm_frames.specs.Parts.{innermost}
-use Rattle.vm_operations.specs.Calls.{captured_all}
 use Rattle.vm_operations.proofs.Making.{captured_is}
 use Rattle.vm_operations.proofs.state.State.capture.Goals as goal
 

@@ -1,4 +1,4 @@
-use Rattle.std.proofs.Common.{◌≡◌, ◌<◌, length, arith, sym, ap, ◌∙◌}
+use Rattle.std.proofs.Common.{length, arith, ap, ◌∙◌}
 use Rattle.vm_course.specs.State.{State}
 use Rattle.vm_frames.specs.Parts.{others_of}
 use Rattle.vm_operations.proofs.Calling.{enter_is}

@@ -5,8 +5,7 @@ use Rattle.hog_value.specs.Cells.{Fun}
 use Rattle.hog_value.specs.Operations.{made}
 use Rattle.vm_course.specs.State.{State}
 use Rattle.vm_course.specs.Stack.{push}
-use Rattle.vm_course.specs.Throws.{with_heap, on_outcome, goto}
-use Rattle.vm_frames.specs.Parts.{innermost, others_of}
+use Rattle.vm_course.specs.Throws.{with_heap, on_outcome}
 use Rattle.vm_operations.specs.Seen.{seen}
 use Rattle.vm_operations.specs.Here.{here_of, IsStopped, set_stop}
 use Rattle.vm_operations.specs.Calls.{push_and_go}
