@@ -1,26 +1,25 @@
 -- Each operation keeps what every state of a run keeps.
-use Rattle.std.proofs.Common.{◌≡◌, ℕ, zero, suc, ◌+◌, ◌-◌, ◌*◌, ◌<◌, ◌≤◌, max, min, ℤ, pos, negsuc, List, [], ◌∷◌, ◌++◌, length, length-append, length-drop, map, drop, Option, Some, None, Bool, true, false, cond, Result, Ok, Err, refl, sym, ap, ◌∙◌, subst, arith}
-use Rattle.std.specs.Prelude.{◌&&◌, ◌==◌, not, nat_lt, nat_le, replicate, reverse, take, slice_get, slice_set, slice_range, option_and_then, unwrap_or, is_some, count_by, bytes_eq}
+use Rattle.std.proofs.Common.{◌≡◌, ℕ, zero, suc, ◌+◌, ◌-◌, ◌<◌, ◌≤◌, max, ℤ, pos, negsuc, List, [], ◌∷◌, ◌++◌, length, length-append, drop, Option, Some, None, Bool, true, false, cond, Result, Ok, Err, refl, sym, ap, ◌∙◌, subst, arith}
+use Rattle.std.specs.Prelude.{◌&&◌, ◌==◌, nat_lt, nat_le, replicate, reverse, slice_get, slice_range, unwrap_or, is_some, count_by, bytes_eq}
 use Rattle.std.specs.List.{AllByRecursion}
 use Rattle.std.proofs.lemmas.Bool.{leb-true, leb-false, ltb-true, ltb-false}
-use Rattle.std.proofs.lemmas.List.{length-map, length-take, length-replicate}
+use Rattle.std.proofs.lemmas.List.{length-take, length-replicate}
 use Rattle.std.proofs.lemmas.List.Sums.{sum_by_push}
 use Rattle.hog_value.specs.declared.cell.FunCell.{FunCell}
 use Rattle.hog_value.specs.declared.native.Native.{Native}
 use Rattle.hog_value.specs.declared.trace.TraceItem.{TraceItem}
 use Rattle.hog_value.specs.declared.trace.TraceItem.TheVariants.{Printed, Asked}
 use Rattle.hog_value.specs.declared.trace.Request.{Request}
-use Rattle.hog_value.specs.declared.trace.End.{End}
 use Rattle.hog_value.specs.declared.trace.End.TheVariants as end
 use Rattle.hog_value.specs.declared.value.Kind.{Kind}
 use Rattle.hog_value.specs.declared.value.Kind.TheVariants.{TypeError, ArgumentError}
 use Rattle.hog_value.specs.Values.{Val, NamesBelow}
 use Rattle.hog_value.specs.declared.value.Value.TheVariants.{Null, Bool as Truth, Int, Ref}
-use Rattle.hog_value.specs.Meters.{Spent, max_turns, max_units, max_depth}
-use Rattle.hog_value.specs.Cells.{CellOf, Array, Fun, HeapOf, pairs_at}
+use Rattle.hog_value.specs.Meters.{max_turns, max_depth}
+use Rattle.hog_value.specs.Cells.{Array, Fun, HeapOf}
 use Rattle.hog_value.specs.Operations as op
 use Rattle.hog_value.specs.Operations.{Outcome, made, truth_of, key_of}
-use Rattle.hog_json.specs.Texts.{shown, named_text}
+use Rattle.hog_json.specs.Texts.{named_text}
 use Rattle.hog_library.specs.Called as native
 use Rattle.hog_library.specs.Called.{called}
 use Rattle.hog_library.specs.Cells.{response}
@@ -33,18 +32,18 @@ use Rattle.hog_meaning.specs.Operators.{operated, accessed, assigned, dictionary
 use Rattle.hog_meaning.specs.World.{Fixed, Reply}
 use Rattle.hog_meaning.specs.Meaning.{place_in, most_requests, is_request, is_fetch, is_null}
 use Rattle.vm_course.specs.State.{Slot, Begins, BodyEnds, Operand, Upvalue, Opened, Closed, Frame, ThrowFrame, Running, Waiting, Ended, Mode, State, header, function_at, params_at}
-use Rattle.vm_course.specs.Stack.{value_at, with_value, or_null, close, keep, push, cut_to, height_of, floor_of, top_of, taken, captured_by, upvalue_of, upvalue_value, capture_all, write_to, write_numbered}
-use Rattle.vm_course.specs.Throws.{ends, with_heap, goto, throw_to, throw_kind, on_result, on_outcome, with_turn}
-use Rattle.vm_course.specs.Step.{Here, on_with, on_and_push, place_at, jump, jump_or_back, in_pairs, with_arguments, enter, get_global, of_native, call_global, call_function, call_found, call_value, throws_around, without_try, give_back, make_function, act, at_slot, here_at, in_frames, take_reply, step_in, step, property_path, global_of, spent_by, with_spent, said, binary, all_true, any_true}
+use Rattle.vm_course.specs.Stack.{keep, push, cut_to, height_of, floor_of, top_of, taken, captured_by, capture_all, write_to, write_numbered}
+use Rattle.vm_course.specs.Throws.{ends, with_heap, goto, throw_kind, on_result, on_outcome, with_turn}
+use Rattle.vm_course.specs.Step.{Here, on_with, on_and_push, place_at, jump, jump_or_back, in_pairs, with_arguments, enter, get_global, of_native, call_global, call_function, call_found, call_value, throws_around, without_try, give_back, make_function, act, at_slot, here_at, in_frames, take_reply, step_in, step, property_path, global_of, spent_by, with_spent, said, binary}
 use Rattle.vm_course.specs.Course.{steps}
-use Rattle.vm_state.specs.Tests.{ends_with_request, waits_for}
+use Rattle.vm_state.specs.Tests.{ends_with_request}
 use Rattle.vm_state.proofs.Alls.{all_append, all_back, all_drop, all_take, all_replicate}
-use Rattle.vm_state.proofs.HeapsStand.{CellStands, HeapStands, Keeps, names_more, all_names_more, upvalues_more, Given, Stands, Named, made_stands, response_stands}
+use Rattle.vm_state.proofs.HeapsStand.{HeapStands, all_names_more, upvalues_more, Stands, Named, made_stands, response_stands}
 use Rattle.vm_state.proofs.NativesStand.{CallStands, called_stands}
 use Rattle.vm_state.proofs.OperatorsStand.{ResultNamed, Nothing, operated_named, key_of_named, accessed_named, assigned_stands, dictionary_stands}
-use Rattle.vm_state.proofs.FramesStand.{Calls, CallsStand, calls_base, calls_floor, calls_at, calls_up, calls_tried, calls_without, calls_around, calls_entered, calls_kept, Own, Below, Choice}
+use Rattle.vm_state.proofs.FramesStand.{Calls, CallsStand, calls_base, calls_floor, calls_at, calls_up, calls_tried, calls_without, calls_around, calls_entered, calls_kept, Below, Choice}
 use Rattle.vm_state.proofs.UpvaluesStand.{value_named, UpvaluesStand, upvalues_up, upvalue_named, upvalues_set, length-upvalues_set, captured_below, all_captured}
-use Rattle.vm_state.proofs.StatesStand.{StateStands, calls_stand_up, length-keep, Stand, ends_stand, heap_stands, spent_stands, said_stands, cut_stands, stacked_stands, push_stands, set_stands, shown_stands, throw_stands, kind_stands, result_stands, outcome_stands, turn_stands}
+use Rattle.vm_state.proofs.StatesStand.{length-keep, Stand, ends_stand, heap_stands, spent_stands, said_stands, cut_stands, stacked_stands, push_stands, set_stands, shown_stands, throw_stands, kind_stands, result_stands, outcome_stands, turn_stands}
 
 -- operands
 

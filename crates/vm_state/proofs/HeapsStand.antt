@@ -1,6 +1,6 @@
 -- Heaps in which values name cells, functions' upvalues are there, and for whose cells enough units are spent; what makes cells
 -- keeps them so.
-use Rattle.std.proofs.Common.{◌≡◌, ℕ, zero, suc, ◌+◌, ◌*◌, ◌-◌, ◌<◌, ◌≤◌, List, [], ◌∷◌, ◌++◌, length, length-append, Option, Some, None, Bool, true, false, cond, refl, sym, ap, ◌∙◌, subst, arith}
+use Rattle.std.proofs.Common.{◌≡◌, ℕ, zero, suc, ◌+◌, ◌*◌, ◌<◌, ◌≤◌, List, [], ◌∷◌, ◌++◌, length, length-append, Option, Some, None, Bool, true, false, cond, refl, arith}
 use Rattle.std.specs.Prelude.{ℤ, nat_le, slice_get, option_and_then, option_map, unwrap_or, is_some, codes}
 use Rattle.std.specs.List.{AllByRecursion}
 use Rattle.std.proofs.lemmas.Bool.{leb-true}
@@ -17,9 +17,8 @@ use Rattle.hog_value.specs.Operations as op
 use Rattle.hog_value.specs.Operations.{Outcome, made}
 use Rattle.hog_json.specs.Reading.{outcome_and_then, number_read, read_cells, read_items, read_members, cells_of_read, json_cells, kept_value}
 use Rattle.hog_library.specs.Cells.{texts_made, array_of_texts, error_cell, kind_name, kind_message, thrown, response_cell, response, blocked}
-use Rattle.hog_meaning.specs.Program.{first_cells}
 use Rattle.vm_course.specs.State.{function_at, function_in}
-use Rattle.vm_state.proofs.Alls.{all_append, all_last, all_if, at_before}
+use Rattle.vm_state.proofs.Alls.{all_last, all_if}
 
 abbrev pub CellStands : ℕ → ℕ → CellOf FunCell → Type 0
 CellStands cells upvalues (Text t) = Unit {0}

@@ -1,26 +1,26 @@
 -- A state that stands passes the tests of a state.
-use Rattle.std.proofs.Common.{◌≡◌, ℕ, zero, suc, ◌+◌, ◌-◌, ◌*◌, ◌<◌, ◌≤◌, List, [], ◌∷◌, ◌++◌, length, length-append, reverse, append_assoc, Option, Some, None, Bool, true, false, cond, refl, sym, ap, ◌∙◌, subst, arith}
-use Rattle.std.specs.Prelude.{◌&&◌, not, ◌==◌, nat_lt, nat_le, nat_eq, slice_get, option_map, option_and_then, unwrap_or, is_some}
-use Rattle.std.specs.List.{AllByRecursion, list_all, list_any}
+use Rattle.std.proofs.Common.{◌≡◌, ℕ, zero, suc, ◌-◌, ◌*◌, ◌<◌, ◌≤◌, List, [], ◌∷◌, ◌++◌, length, reverse, append_assoc, Option, Some, None, Bool, true, false, refl, sym, ap, ◌∙◌, subst, arith}
+use Rattle.std.specs.Prelude.{◌&&◌, not, ◌==◌, nat_lt, nat_eq, unwrap_or, is_some}
+use Rattle.std.specs.List.{AllByRecursion, list_any}
 use Rattle.std.proofs.lemmas.Bool.{le-leb, lt-ltb, eq-eqb, ne_eqb, eqb-true, and_from, or_from}
 use Rattle.std.proofs.lemmas.List.{reverse-append, length-reverse}
 use Rattle.hog_value.specs.declared.cell.FunCell.{FunCell}
 use Rattle.hog_value.specs.declared.value.Value.TheVariants.{Null, Bool as Truth, Int, Ref}
 use Rattle.hog_value.specs.Values.{Val, NamesBelow}
 use Rattle.hog_value.specs.Meters.{max_turns, max_units, max_depth}
-use Rattle.hog_value.specs.Cells.{CellOf, Text, Array, Dict, Fun, HeapOf, pairs_at}
+use Rattle.hog_value.specs.Cells.{CellOf, Text, Array, Dict, Fun, HeapOf}
 use Rattle.hog_meaning.specs.Meaning.{most_requests}
 use Rattle.hog_meaning.specs.World.{Fixed}
-use Rattle.vm_course.specs.State.{Upvalue, Opened, Closed, Frame, ThrowFrame, State, function_at}
+use Rattle.vm_course.specs.State.{Upvalue, Opened, Closed, Frame, ThrowFrame, State}
 use Rattle.vm_course.specs.Stack.{keep}
 use Rattle.vm_course.specs.Run.{RunState}
 use Rattle.vm_state.specs.Saved.{requests_in}
-use Rattle.vm_state.specs.Tests.{names, cell_stands, is_function, frame_stands, later_frames, frames_stand, base_at, reaches, lands, throw_stands, throws_stand, upvalue_stands, taken_with, upvalues_stand, globals_stand, counts_stand, values_stand, is_state}
+use Rattle.vm_state.specs.Tests.{names, cell_stands, is_function, later_frames, frames_stand, base_at, reaches, lands, throws_stand, upvalues_stand, globals_stand, counts_stand, values_stand, is_state}
 use Rattle.vm_state.proofs.Alls.{all_back, all_last, all_tested}
-use Rattle.vm_state.proofs.HeapsStand.{CellStands, HeapStands}
+use Rattle.vm_state.proofs.HeapsStand.{CellStands}
 use Rattle.vm_state.proofs.FramesStand.{IsFunction, Choice, Own, Below, Calls, CallsStand, calls_base}
 use Rattle.vm_state.proofs.FramesStand as frames
-use Rattle.vm_state.proofs.UpvaluesStand.{UpvalueStands, NotAt, Apart, UpvaluesStand}
+use Rattle.vm_state.proofs.UpvaluesStand.{UpvalueStands, NotAt, Apart}
 use Rattle.vm_state.proofs.StatesStand.{StateStands, length-keep}
 
 infixl 35 ◌&◌

@@ -1,6 +1,6 @@
 -- What natives give names cells, of a heap that stands.
-use Rattle.std.proofs.Common.{◌≡◌, ℕ, zero, suc, ◌+◌, ◌<◌, ◌≤◌, List, [], ◌∷◌, ◌++◌, map, length, Option, Some, None, Bool, true, false, cond, refl, sym, ap, ◌∙◌, subst, arith}
-use Rattle.std.specs.Prelude.{ℤ, pos, nat_lt, nat_le, slice_get, option_and_then, option_map, unwrap_or, flat_map, codes}
+use Rattle.std.proofs.Common.{◌≡◌, ℕ, ◌+◌, ◌≤◌, List, [], ◌∷◌, ◌++◌, map, length, Option, Some, None, Bool, true, false, cond, refl, subst, arith}
+use Rattle.std.specs.Prelude.{ℤ, pos, nat_lt, nat_le, option_and_then, flat_map, codes}
 use Rattle.std.specs.List.{AllByRecursion, join_by, range_with_len}
 use Rattle.std.specs.Char.{to_ascii_uppercase, to_ascii_lowercase}
 use Rattle.std.specs.Map.{keys_of}
@@ -17,15 +17,14 @@ use Rattle.hog_value.specs.Cells.{CellOf, Text, Array, Dict, Fun, HeapOf, items_
 use Rattle.hog_value.specs.Operations as op
 use Rattle.hog_value.specs.Operations.{Outcome, made}
 use Rattle.hog_json.specs.Texts.{shown, json_text_of, named_text}
-use Rattle.hog_json.specs.Reading.{json_cells}
 use Rattle.hog_library.specs.Texts.{trimmed, pieces, replaced, is_allowed}
 use Rattle.hog_library.specs.Given.{argument, cell_given, items_given, are_options, with_given}
-use Rattle.hog_library.specs.Cells.{array_of_texts, error_cell, blocked}
+use Rattle.hog_library.specs.Cells.{blocked}
 use Rattle.hog_library.specs.Natives.{text_or_null, concat_text, size_of, number_of, number_or_null, numbers_to, keys_of_cell, values_of_cell, int_given, length_called, concat_called, to_string_called, to_int_called, upper_called, lower_called, trim_called, starts_with_called, replace_all_called, split_called, keys_called, values_called, has_called, push_back_called, empty_called, json_parse_called, json_stringify_called, error_called, date_add_called, date_diff_called, weekday_called}
-use Rattle.hog_library.specs.Called.{Called, Gives, Prints, Throws, Asks, TurnsSpent, UnitsSpent, of_outcome, prints, print_called, asks, fetched, with_turn, fetched_from, fetch_called, called}
+use Rattle.hog_library.specs.Called.{Called, Gives, Prints, Throws, Asks, TurnsSpent, UnitsSpent, of_outcome, print_called, asks, fetched, with_turn, fetched_from, fetch_called, called}
 use Rattle.hog_meaning.specs.Meaning.{is_fetch}
 use Rattle.vm_state.proofs.Alls.{all_last, all_at, all_or, all_map}
-use Rattle.vm_state.proofs.HeapsStand.{CellStands, HeapStands, Keeps, names_more, Given, Stands, Named, AllNamed, same_stands, both_stand, made_stands, json_stands, array_stands, error_stands, blocked_stands}
+use Rattle.vm_state.proofs.HeapsStand.{CellStands, HeapStands, Keeps, names_more, Stands, Named, same_stands, both_stand, made_stands, json_stands, array_stands, error_stands, blocked_stands}
 
 number_named : (n : ℕ) (o : Option ℤ) → NamesBelow n (number_or_null o)
 number_named n None = tt

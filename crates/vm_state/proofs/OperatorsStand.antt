@@ -1,11 +1,10 @@
 -- What operators, access and setting give names cells, of a heap that stands.
-use Rattle.std.proofs.Common.{◌≡◌, ℕ, zero, suc, ◌+◌, ◌<◌, ◌≤◌, List, [], ◌∷◌, ◌++◌, length, Option, Some, None, Bool, true, false, cond, Result, Ok, Err, refl, sym, ap, ◌∙◌, subst, arith}
-use Rattle.std.specs.Prelude.{ℤ, pos, negsuc, ◌+ℤ◌, ◌-ℤ◌, ◌*ℤ◌, not, nat_lt, nat_le, ◌==◌, slice_get, slice_set, option_and_then, unwrap_or, is_some, bytes_eq}
+use Rattle.std.proofs.Common.{◌≡◌, ℕ, zero, suc, ◌+◌, ◌≤◌, List, [], ◌∷◌, ◌++◌, length, Option, Some, None, Bool, true, false, cond, Result, Ok, Err, refl, sym, ap, ◌∙◌, subst, arith}
+use Rattle.std.specs.Prelude.{ℤ, ◌+ℤ◌, ◌-ℤ◌, ◌*ℤ◌, not, nat_lt, nat_le, ◌==◌, slice_get, slice_set, option_and_then, unwrap_or, is_some, bytes_eq}
 use Rattle.std.specs.List.{AllByRecursion}
 use Rattle.std.specs.Map.{lookup}
 use Rattle.std.specs.declared.cmp.Ordering.{Ordering}
 use Rattle.std.proofs.lemmas.Bool.{leb-true}
-use Rattle.std.proofs.lemmas.List.{length-set}
 use Rattle.indexmap.specs.IndexMap.{insert_entry}
 use Rattle.hog_value.specs.declared.cell.FunCell.{FunCell}
 use Rattle.hog_value.specs.declared.value.Kind.{Kind}
@@ -21,7 +20,7 @@ use Rattle.hog_tree.specs.declared.tree.BinaryOp.{BinaryOp}
 use Rattle.hog_tree.specs.declared.tree.BinaryOp.TheVariants as b
 use Rattle.hog_meaning.specs.Operators.{in_range, checked, computed, tested, compared, order_of, is_less, is_greater, is_in, truth_result, operated, read_by, set_by, outcome_of, accessed, assigned, dictionary_made}
 use Rattle.hog_meaning.specs.Operators as operators
-use Rattle.vm_course.specs.State.{function_in, function_at}
+use Rattle.vm_course.specs.State.{function_in}
 use Rattle.vm_state.proofs.Alls.{all_last, all_at, all_or, all_set}
 use Rattle.vm_state.proofs.HeapsStand.{CellStands, HeapStands, Keeps, Given, Stands, Named, AllNamed, PairsNamed, made_stands}
 

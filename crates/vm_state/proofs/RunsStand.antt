@@ -1,26 +1,26 @@
 -- Each run on the machine's course is a machine of its code.
-use Rattle.std.proofs.Common.{◌≡◌, ℕ, zero, suc, ◌+◌, ◌-◌, ◌*◌, ◌^◌, ◌<◌, ◌≤◌, List, [], ◌∷◌, length, Option, Some, None, Bool, true, false, refl, sym, ap, ◌∙◌, subst, arith}
-use Rattle.std.specs.Prelude.{IfSome, is_some, option_and_then, slice_get}
+use Rattle.std.proofs.Common.{◌≡◌, ℕ, zero, suc, ◌-◌, ◌^◌, ◌<◌, List, [], ◌∷◌, length, Option, Some, None, true, refl, sym, ap, ◌∙◌, subst, arith}
+use Rattle.std.specs.Prelude.{IfSome, is_some}
 use Rattle.hog_value.specs.declared.cell.FunCell.{FunCell}
 use Rattle.hog_value.specs.declared.trace.End.TheVariants as end
 use Rattle.hog_value.specs.Values.{Val}
-use Rattle.hog_value.specs.Cells.{HeapOf, pairs_of, pairs_at}
+use Rattle.hog_value.specs.Cells.{HeapOf, pairs_at}
 use Rattle.hog_value.specs.Operations as op
 use Rattle.hog_value.specs.Operations.{Outcome}
 use Rattle.hog_ops.specs.Plain.{Ops}
 use Rattle.hog_ops.specs.Valid.{IsCode}
 use Rattle.hog_meaning.specs.Program.{first_cells}
 use Rattle.hog_meaning.specs.World.{Fixed, Reply}
-use Rattle.vm_course.specs.State.{Slot, code_slots, Ended, Mode, State}
-use Rattle.vm_course.specs.Step.{step, step_in}
+use Rattle.vm_course.specs.State.{Slot, code_slots, Ended, State}
+use Rattle.vm_course.specs.Step.{step_in}
 use Rattle.vm_course.specs.Course.{literals_of_code, started, fixed_by, steps, machine}
-use Rattle.vm_course.specs.Run.{RunState, globals_cell, begun_with, begun, fixed_of, one_more, with_replies, IsRunOf}
+use Rattle.vm_course.specs.Run.{RunState, globals_cell, begun_with, fixed_of, one_more, with_replies, IsRunOf}
 use Rattle.vm_course.specs.Belongs.{belongs}
 use Rattle.vm_course.proofs.CodesBelong.{begins_belonging, keeps_belonging}
 use Rattle.vm_state.specs.Saved.{requests_in}
 use Rattle.vm_state.specs.Tests.{is_state}
-use Rattle.vm_state.specs.Laws.{SavedFits, IsMachineOf, NumbersFit, AreGlobals, RunsAreMachines}
-use Rattle.vm_state.proofs.StatesStand.{StateStands, Stand}
+use Rattle.vm_state.specs.Laws.{AreGlobals, RunsAreMachines}
+use Rattle.vm_state.proofs.StatesStand.{Stand}
 use Rattle.vm_state.proofs.ActsStand.{steps_stand}
 use Rattle.vm_state.proofs.StartsStand.{StartsStanding, starts_standing}
 use Rattle.vm_state.proofs.IsStates.{is_a_state}

@@ -1,7 +1,7 @@
 -- A run begins in a state that stands, where its globals are an object of JSON.
-use Rattle.std.proofs.Common.{◌≡◌, ℕ, zero, suc, ◌+◌, ◌-◌, ◌<◌, ◌≤◌, List, [], ◌∷◌, ◌++◌, length, length-append, Option, Some, None, Bool, true, false, cond, refl, sym, ap, ◌∙◌, subst, arith}
+use Rattle.std.proofs.Common.{◌≡◌, ℕ, suc, ◌+◌, ◌-◌, ◌<◌, ◌≤◌, List, [], ◌∷◌, ◌++◌, length, length-append, Some, Bool, true, false, cond, refl, sym, ap, ◌∙◌, subst, arith}
 use Rattle.std.specs.Prelude.{nat_le, slice_get, is_some, option_and_then}
-use Rattle.serde_json.specs.Data.{Data, Members, object}
+use Rattle.serde_json.specs.Data.{Members, object}
 use Rattle.hog_value.specs.declared.cell.FunCell.{FunCell}
 use Rattle.hog_value.specs.declared.value.Value.TheVariants.{Ref}
 use Rattle.hog_value.specs.Values.{Val}
@@ -15,7 +15,7 @@ use Rattle.hog_meaning.specs.Program.{first_cells}
 use Rattle.hog_meaning.specs.World.{Reply}
 use Rattle.vm_course.specs.Course.{started, fixed_by}
 use Rattle.vm_state.proofs.HeapsStand.{HeapStands, Stands, Named, AllNamed, PairsNamed, both_stand, texts_stand, cells_stand, members_stand}
-use Rattle.vm_state.proofs.StatesStand.{StateStands, Stand}
+use Rattle.vm_state.proofs.StatesStand.{Stand}
 
 -- at least so many cells, and more than so many whose last is a dictionary
 

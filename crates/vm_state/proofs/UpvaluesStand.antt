@@ -1,17 +1,17 @@
 -- Open upvalues have places of their own on the stack, and what closed ones have taken names cells.
-use Rattle.std.proofs.Common.{◌≡◌, ℕ, zero, suc, ◌+◌, ◌-◌, ◌<◌, ◌≤◌, List, [], ◌∷◌, ◌++◌, length, length-append, map, Option, Some, None, Bool, true, false, cond, refl, sym, ap, ◌∙◌, subst, arith}
-use Rattle.std.specs.Prelude.{nat_lt, ◌==◌, slice_get, slice_set, option_and_then, option_map, unwrap_or}
+use Rattle.std.proofs.Common.{◌≡◌, ℕ, zero, suc, ◌+◌, ◌<◌, ◌≤◌, List, [], ◌∷◌, ◌++◌, length, length-append, map, Option, Some, None, Bool, true, false, cond, refl, sym, ap, arith}
+use Rattle.std.specs.Prelude.{nat_lt, ◌==◌, slice_get, slice_set, option_and_then}
 use Rattle.std.specs.List.{AllByRecursion}
 use Rattle.std.proofs.lemmas.Bool.{ltb-true, eqb-false}
 use Rattle.hog_value.specs.declared.cell.FunCell.{FunCell}
 use Rattle.hog_value.specs.declared.value.Value.TheVariants.{Null}
 use Rattle.hog_value.specs.Values.{Val, NamesBelow}
-use Rattle.hog_value.specs.Cells.{CellOf, Text, Array, Dict, Fun, HeapOf}
+use Rattle.hog_value.specs.Cells.{Text, Array, Dict, Fun, HeapOf}
 use Rattle.hog_ops.specs.declared.capture.Capture.{Capture}
-use Rattle.vm_course.specs.State.{Upvalue, Opened, Closed, Frame, State, function_in, function_at}
+use Rattle.vm_course.specs.State.{Upvalue, Opened, Closed, Frame, State, function_at}
 use Rattle.vm_course.specs.Stack.{value_at, with_value, or_null, close, one_on, find_open, captured_in, captured_by, upvalue_value, or_opened, or_closed, capture_one, capture_all}
 use Rattle.vm_state.proofs.Alls.{all_last, all_at, all_set, all_if, all_map}
-use Rattle.vm_state.proofs.HeapsStand.{CellStands, HeapStands, names_more}
+use Rattle.vm_state.proofs.HeapsStand.{CellStands, names_more}
 
 -- values on the stack
 
