@@ -5,4 +5,5 @@ mod Filling
 mod Closing
 mod Indexed
 mod Opening
+mod Listing
 mod Capturing

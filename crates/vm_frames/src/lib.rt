@@ -10,6 +10,9 @@ pub mod stack;
 pub mod throws;
 pub mod upvalues;
 
+#[cfg(test)]
+mod tests;
+
 pub use frames::{Frame, Frames};
 pub use stack::Stack;
 pub use throws::{ThrowFrame, Throws};
