@@ -7,11 +7,10 @@
 
 pub mod frames;
 pub mod stack;
-pub mod throws;
-pub mod upvalues;
-
 #[cfg(test)]
 mod tests;
+pub mod throws;
+pub mod upvalues;
 
 pub use frames::{Frame, Frames};
 pub use stack::Stack;
