@@ -120,3 +120,6 @@ impl<'c> Table<'c> {
         Ok(texts)
     }
 }
+
+#[cfg(test)]
+mod tests;
