@@ -34,12 +34,12 @@ pub fn keeps_belonging()
     ensures { KeepsBelonging }
 {}
 
-/// So does a slice.
+/// A slice leaves a run that belongs to its code one that does.
 pub fn slices_belong()
     ensures { SlicesBelong }
 {}
 
-/// And so does a reply that is taken in.
+/// A reply that is taken in leaves a run that belongs to a code one that does.
 pub fn replies_belong()
     ensures { RepliesBelong }
 {}
