@@ -1,4 +1,6 @@
 pub mod Lists
+mod Named
+mod Taking
 mod Closing
 mod Indexed
 mod Opening
