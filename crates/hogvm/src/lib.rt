@@ -5,6 +5,7 @@
 //! Above, the contracts of `Steps` are used: a machine is the run of `begun`, `run_for` and `resumed` of vm_course.
 #![tactic(auto)]
 
+mod slice;
 pub mod steps;
 
 pub use steps::{Pause, StartStop, Steps};

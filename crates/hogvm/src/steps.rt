@@ -1,5 +1,6 @@
 //! What is done with a machine.
 
+use crate::slice::{go, pause};
 use cyclotron_jobs::Reply;
 use hog_ops::Code;
 use hog_value::HogText;
@@ -104,10 +105,22 @@ impl Steps for Machine {
     }
 
     fn run(&mut self, alloc: Global, code: &Code, slice: u32) -> Result<Pause, AllocError> {
-        unreachable!()
+        if self.is_spent() {
+            return Err(AllocError);
+        }
+        match go(self, alloc, code, slice) {
+            Ok(()) => Ok(pause(self)),
+            Err(want) => {
+                self.spend();
+                Err(want)
+            }
+        }
     }
 
     fn resume(&mut self, alloc: Global, reply: &Reply) -> Result<(), AllocError> {
-        unreachable!()
+        if self.is_spent() {
+            return Err(AllocError);
+        }
+        self.take_reply(alloc, reply.status, &reply.body)
     }
 }

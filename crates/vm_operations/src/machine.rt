@@ -9,6 +9,7 @@ ghost use Rattle.hog_value.specs.Operations.{Gives, Spends};
 ghost use Rattle.vm_course.specs.State.{Running, Waiting};
 ghost use Rattle.vm_course.specs.Course.{shown_by};
 ghost use Rattle.vm_course.specs.Run.{begun_with, resumed};
+ghost use Rattle.vm_course.specs.Belongs.{literals_belong};
 ghost use Rattle.vm_operations.specs.Machine.{HasEnded, asked_by, one_read};
 
 use crate::state::State;
@@ -145,7 +146,7 @@ impl Machine {
     pub fn step(&mut self, alloc: Global, table: &Table) -> Result<(), AllocError>
         requires runs { self.old.run.state.mode ≡ Running }
         requires fresh { self.old.spent ≡ false }
-        requires literals { length table.now.literals ≤ length self.old.run.state.heap }
+        requires literals { literals_belong table.now.literals self.old.run.globals self.old.run.state.heap ≡ true }
         requires counted { self.old.run.ops + 1 < 2 ^ 64 }
         ensures done { OnOk result (self.new ≡ record { run = one_read table.now self.old.run; spent = false }) }
         ensures spends { OnErr result (IsTrue self.new.spent) }
