@@ -217,26 +217,36 @@ no_end : (k p : ℕ) (o : Op) → slice_get (BodyEnds ∷ replicate k Operand) p
 no_end k zero o e = cc
 no_end k (suc p) o e = no_operation k p o e
 
+-- a function's body begins at a place
+abbrev pub HoldsBody : List Slot → ℕ → Op → Type 0
+HoldsBody code place (Callable name params inner captures) = is_place code (place + header) ≡ true
+HoldsBody code place o = Unit {0}
+
+-- an operation at a place fits there
+pub record Good (code : List Slot) (place : ℕ) (o : Op) : Type 0 where
+  pub fits : OpFits code (place + size o) o
+  pub holds : HoldsBody code place o
+
 -- every operation that begins among these slots fits there
 abbrev AllFit : List Slot → ℕ → List Slot → Type 0
-AllFit code from xs = (p : ℕ) (o : Op) → slice_get xs p ≡ Some (Begins o) → OpFits code (from + p + size o) o
+AllFit code from xs = (p : ℕ) (o : Op) → slice_get xs p ≡ Some (Begins o) → Good code (from + p) o
+
+-- the first of some slots
+first_good : (code : List Slot) (from : ℕ) (o q : Op) → Good code from o → Some (Begins o) ≡ Some (Begins q) → Good code (from + 0) q
+first_good code from o q h e =
+    let same : o ≡ q = cc in
+    let there : from ≡ from + 0 = omega arith in
+    subst (λ x. Good code (from + 0) x) same (subst (λ n. Good code n o) there h)
 
 -- an operation that holds no others
-alone_fits : (code : List Slot) (from k : ℕ) (o : Op) → OpFits code (from + size o) o → AllFit code from (Begins o ∷ replicate k Operand)
-alone_fits code from k o h zero q e =
-    let same : o ≡ q = cc in
-    let there : from + size o ≡ from + 0 + size o = omega arith in
-    subst (λ x. OpFits code (from + 0 + size x) x) same (subst (λ n. OpFits code n o) there h)
+alone_fits : (code : List Slot) (from k : ℕ) (o : Op) → Good code from o → AllFit code from (Begins o ∷ replicate k Operand)
+alone_fits code from k o h zero q e = first_good code from o q h e
 alone_fits code from k o h (suc p) q e = absurd (no_operation k p q e)
 
 -- a function: itself, and the operations of its body
-inside_fits : (code : List Slot) (from : ℕ) (name : List ℕ) (params : ℕ) (inner : Ops) (captures : List Capture) → OpFits code (from + size (Callable name params inner captures)) (Callable name params inner captures)
+inside_fits : (code : List Slot) (from : ℕ) (name : List ℕ) (params : ℕ) (inner : Ops) (captures : List Capture) → Good code from (Callable name params inner captures)
     → AllFit code (from + header) (slots inner) → AllFit code from (op_slots (Callable name params inner captures))
-inside_fits code from name params inner captures h k zero q e =
-    let o = Callable name params inner captures in
-    let same : o ≡ q = cc in
-    let there : from + size o ≡ from + 0 + size o = omega arith in
-    subst (λ x. OpFits code (from + 0 + size x) x) same (subst (λ n. OpFits code n o) there h)
+inside_fits code from name params inner captures h k zero q e = first_good code from (Callable name params inner captures) q h e
 inside_fits code from name params inner captures h k (suc p) q e =
     let more = 1 + (length captures + length captures) in
     let tail = BodyEnds ∷ replicate more Operand in
@@ -244,8 +254,8 @@ inside_fits code from name params inner captures h k (suc p) q e =
     (λ b. ⊎_elim
     (λ c.
     let at = b.1 in
-    let there : from + header + b.0 + size q ≡ from + suc p + size q = omega arith in
-    subst (λ n. OpFits code n q) there (k b.0 q c))
+    let there : from + header + b.0 ≡ from + suc p = omega arith in
+    subst (λ n. Good code n q) there (k b.0 q c))
     (λ d. absurd (no_end more d.0 q d.2))
     (get_either (slots inner) tail b.0 (Begins q) b.2))
     (get_either (replicate 4 Operand) (slots inner ++ tail) p (Begins q) e)
@@ -257,8 +267,8 @@ more_fit code from o os h k p q e =
     (λ b.
     let at = b.1 in
     let l = op_length o in
-    let there : from + size o + b.0 + size q ≡ from + p + size q = omega arith in
-    subst (λ n. OpFits code n q) there (k b.0 q b.2))
+    let there : from + size o + b.0 ≡ from + p = omega arith in
+    subst (λ n. Good code n q) there (k b.0 q b.2))
     (get_either (op_slots o) (slots os) p (Begins q) e)
 
 mutual
@@ -268,12 +278,15 @@ mutual
       let o = Callable name params inner captures in
       let there : base + (at + size o) ≡ base + at + size o = omega arith in
       let there2 : base + (at + header) + 0 ≡ base + at + header = omega arith in
-      inside_fits code (base + at) name params inner captures (subst (λ n. OpFits code n o) there (first_fits code base body at o os post b h lost ok))
+      let inside = stands_inside code base body at name params inner captures os post h in
+      let fits = subst (λ n. OpFits code n o) there (first_fits code base body at o os post b h lost ok) in
+      let holds = subst (λ n. is_place code n ≡ true) there2 (inside.of_body 0 (start_place inner)) in
+      inside_fits code (base + at) name params inner captures (record { fits = fits; holds = holds })
       (subst (λ n. AllFit code n (slots inner)) there2
-      (ops_fit code (base + (at + header)) inner 0 inner ((BodyEnds ∷ replicate (1 + (length captures + length captures)) Operand) ++ (slots os ++ post)) (b + (at + 5)) (stands_inside code base body at name params inner captures os post h) lost ok))
+      (ops_fit code (base + (at + header)) inner 0 inner ((BodyEnds ∷ replicate (1 + (length captures + length captures)) Operand) ++ (slots os ++ post)) (b + (at + 5)) inside lost ok))
   op_fits code base body at o os post b h lost ok =
       let there : base + (at + size o) ≡ base + at + size o = omega arith in
-      alone_fits code (base + at) (size o - 1) o (subst (λ n. OpFits code n o) there (first_fits code base body at o os post b h lost ok))
+      alone_fits code (base + at) (size o - 1) o (record { fits = subst (λ n. OpFits code n o) there (first_fits code base body at o os post b h lost ok); holds = tt })
 
   ops_fit : (code : List Slot) (base : ℕ) (body : Ops) (at : ℕ) (os : Ops) (post : List Slot) (b : ℕ)
       → Stands code base body at os post → lost_in b body at os ≡ None → allowed os ≡ true → AllFit code (base + at) (slots os)
@@ -296,10 +309,17 @@ code_stands code =
       in_code = λ n. let there : 0 + n ≡ n = omega arith in ap (λ k. is_place (code_slots code) (2 + k)) there ∙ same n;
     }
 
--- Each operation of a code fits.
+-- Each operation of a code fits, and the body of each function begins at a place.
+pub code_good : (code : Ops) (p : ℕ) (op : Op) → IsCode code → slice_get (code_slots code) p ≡ Some (Begins op) → Good (code_slots code) p op
+code_good code zero op is e = absurd cc
+code_good code (suc zero) op is e = absurd cc
+code_good code (suc (suc p)) op is e =
+    let there : 2 + 0 + p ≡ suc (suc p) = omega arith in
+    subst (λ n. Good (code_slots code) n op) there (ops_fit (code_slots code) 2 code 0 code [] 0 (code_stands code) is.leads is.allowed p op e)
+
 pub code_fits : (code : Ops) (p : ℕ) (op : Op) → IsCode code → slice_get (code_slots code) p ≡ Some (Begins op) → OpFits (code_slots code) (p + size op) op
-code_fits code zero op is e = absurd cc
-code_fits code (suc zero) op is e = absurd cc
-code_fits code (suc (suc p)) op is e =
-    let there : 2 + 0 + p + size op ≡ suc (suc p) + size op = omega arith in
-    subst (λ n. OpFits (code_slots code) n op) there (ops_fit (code_slots code) 2 code 0 code [] 0 (code_stands code) is.leads is.allowed p op e)
+code_fits code p op is e = (code_good code p op is e).fits
+
+-- where a program begins
+pub code_begins : (code : Ops) → is_place (code_slots code) 2 ≡ true
+code_begins code = (code_stands code).of_body 0 (start_place code)

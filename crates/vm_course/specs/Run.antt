@@ -1,5 +1,5 @@
 -- A run between two operations, and what becomes of it by a slice and by a reply.
-use Rattle.std.specs.Prelude.{◌≡◌, ℕ, zero, suc, ◌+◌, ◌-◌, List, [], ◌∷◌, ◌++◌, length, drop, slice_get, Option, Some, None, unwrap_or}
+use Rattle.std.specs.Prelude.{◌≡◌, ℕ, zero, suc, ◌+◌, ◌-◌, ◌≤◌, List, [], ◌∷◌, length, drop, Option, Some, None, unwrap_or}
 use Rattle.hog_value.specs.declared.cell.FunCell.{FunCell}
 use Rattle.hog_value.specs.Values.{Val}
 use Rattle.hog_value.specs.Operations as op
@@ -55,13 +55,20 @@ run_for code (suc n) r = where_running r.state.mode (run_for code n (one_more co
 abbrev pub resumed : Reply → RunState → RunState
 resumed reply r = record r { ops = r.ops + 1; used = r.used + 1; state = take_reply (reply ∷ []) r.state }
 
--- The run is that of a code on globals and replies, of which it has taken in the first: its state is the machine's after as
--- many operations, which has the other replies still to come.
+-- the state with these replies to come
 abbrev pub with_replies : List Reply → State → State
 with_replies replies s = record s { replies = replies }
 
+-- the replies that are still to come, of which there is nothing to say where a run has ended
+abbrev pub AreLeft : Mode → List Reply → List Reply → Type 0
+AreLeft Running left replies = left ≡ replies
+AreLeft Waiting left replies = left ≡ replies
+AreLeft (Ended e) left replies = Unit {0}
+
+-- The run is that of a code on globals and replies, of which it has taken in the first: its state is the machine's after as
+-- many operations, for which the other replies are still to come.
 pub record IsRunOf (code : Ops) (globals : List ℕ) (replies : List Reply) (r : RunState) : Type 0 where
-  pub counted : (k : ℕ) → r.ops ≡ suc k → with_replies (drop r.used replies) r.state ≡ machine code globals replies k
-  pub begun : (k : ℕ) × (r.ops ≡ suc k)
+  pub begun : 1 ≤ r.ops
   pub cell : r.globals ≡ globals_cell (first_cells (literals_of_code code) globals)
-  pub none_left : r.state.replies ≡ []
+  pub state : r.state ≡ with_replies [] (machine code globals replies (r.ops - 1))
+  pub left : AreLeft r.state.mode (machine code globals replies (r.ops - 1)).replies (drop r.used replies)

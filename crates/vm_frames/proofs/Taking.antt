@@ -1,6 +1,6 @@
 -- Operands that are taken one after the other.
-use Rattle.std.proofs.Common.{◌≡◌, ◌<◌, ◌≤◌, ◌+◌, ◌-◌, ℕ, zero, suc, List, [], ◌∷◌, ◌++◌, length, All, arith, refl, ap, ap₂, sym, subst, ◌∙◌, append_assoc, append-nil}
-use Rattle.hog_value.specs.Values.{Val, NamesBelow}
+use Rattle.std.proofs.Common.{◌≡◌, ◌<◌, ◌≤◌, ◌+◌, ◌-◌, ℕ, suc, List, [], ◌∷◌, ◌++◌, length, arith, ap, sym, ◌∙◌, append_assoc, append-nil}
+use Rattle.hog_value.specs.Values.{Val}
 use Rattle.vm_course.specs.Stack.{keep, top_of, taken}
 use Rattle.vm_frames.proofs.Lists.{keep-all}
 
