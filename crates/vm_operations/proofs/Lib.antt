@@ -1,7 +1,6 @@
 mod Fit
 mod Landing
 mod Tops
-mod Taking
 mod Gathered
 mod Answered
 mod Paths

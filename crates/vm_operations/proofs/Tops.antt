@@ -14,7 +14,7 @@ module _ (s : State) (behind floor all : ℕ) (ground : floor ≡ floor_of (inne
   under : (below : ℕ) (t : Val × List Val) → top_of floor (keep below s.stack) ≡ t → top_of (here_of behind s).floor (keep below s.stack) ≡ t
   under below t is = ap (λ f. top_of f (keep below s.stack)) (sym ground) ∙ is
 
-  first : (t : Val × List Val) → top_of floor (keep all s.stack) ≡ t → top_of (here_of behind s).floor s.stack ≡ t
+  pub first : (t : Val × List Val) → top_of floor (keep all s.stack) ≡ t → top_of (here_of behind s).floor s.stack ≡ t
   first t is = ap (top_of (here_of behind s).floor) (sym (keep-all s.stack all whole)) ∙ under all t is
 
   -- what goes by the topmost operand

@@ -18,7 +18,7 @@ use hog_value::{Cell, End, Heap, Value};
 use std::alloc::{AllocError, Global};
 
 /// The numbers of the upvalues that a frame's function has captured. Takes no memory.
-fn captured_by(heap: &Heap, function: Option<u32>) -> &[u32]
+pub(crate) fn captured_by(heap: &Heap, function: Option<u32>) -> &[u32]
     ensures { result.now ≡ captured_in (option_and_then (function_at heap.entry.now) function) }
 {
     let Some(n) = function else {
