@@ -5,3 +5,4 @@ mod Gathered
 mod Answered
 mod Paths
 mod JumpLemmas
+mod Steps

@@ -1,3 +1,4 @@
 pub mod Here
 pub mod Seen
+pub mod Kinds
 pub mod Machine
