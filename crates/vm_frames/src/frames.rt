@@ -7,11 +7,14 @@ ghost use Rattle.vm_frames.specs.Parts.{first_of, others_of};
 use std::alloc::{AllocError, Global};
 use std::marker::Model;
 
-/// A call: the place of its next operation, where its locals begin on the stack, and the cell of its function.
+/// A call.
 #[derive(Clone, Copy)]
 pub struct Frame {
+    /// The place of its next operation in the code.
     pub place: u32,
+    /// Where its locals begin on the stack, counted from the bottom.
     pub base: u32,
+    /// The cell of its function; the program has none.
     pub function: Option<u32>,
 }
 

@@ -1,6 +1,6 @@
 //! The values of a machine's stack.
 
-ghost use Rattle.std.specs.Prelude.{◌≡◌, ◌<◌, ◌≤◌, ◌-◌, ℕ, [], ◌∷◌, ◌++◌, All, length, replicate, reverse, slice_range, IfOk, IfSome, OnOk, OnErr};
+ghost use Rattle.std.specs.Prelude.{◌≡◌, ◌<◌, ◌≤◌, ◌-◌, ℕ, [], ◌∷◌, ◌++◌, All, length, replicate, reverse, slice_range, IsOk, IfOk, IfSome, OnOk, OnErr};
 ghost use Rattle.hog_value.specs.Values.{NamesBelow};
 ghost use Rattle.hog_value.specs.declared.value.Value.TheVariants.{Null};
 ghost use Rattle.vm_course.specs.Stack.{value_at, with_value, keep, top_of, taken};
@@ -88,7 +88,7 @@ impl Stack {
         Ok(())
     }
 
-    /// Adds so many nulls on top.
+    /// Adds `n` nulls on top.
     pub fn push_nulls(&mut self, n: u32) -> Result<(), AllocError>
         ensures is { OnOk result (self.new ≡ replicate n Null ++ self.old) }
         ensures names { (m : ℕ) → All (NamesBelow m) self.old → All (NamesBelow m) self.new }
@@ -110,10 +110,11 @@ impl Stack {
         Ok(())
     }
 
-    /// So many arguments above a floor, which the values there are: those that are missing are null, and the deepest.
-    /// Takes no memory where none is missing.
+    /// Makes the values above a floor at least `n`: those that are missing are nulls under the others. The floor is a count of
+    /// values from the bottom; above a floor higher than the stack there are none. Takes no memory where none is missing.
     pub fn fill(&mut self, alloc: Global, floor: u32, n: u32) -> Result<(), AllocError>
         ensures is { OnOk result (self.new ≡ with_arguments floor n self.old) }
+        ensures none_missing { n ≤ length self.old - floor → IsOk result }
         ensures names { (m : ℕ) → All (NamesBelow m) self.old → All (NamesBelow m) self.new }
     {
         let there = self.len().saturating_sub(floor);
@@ -123,7 +124,7 @@ impl Stack {
         self.put_nulls(alloc, floor, n - there)
     }
 
-    /// Puts so many nulls under the values above a floor.
+    /// Puts `n` nulls under the values above a floor.
     fn put_nulls(&mut self, alloc: Global, floor: u32, n: u32) -> Result<(), AllocError>
         ensures is { OnOk result (self.new ≡ slice_range self.old 0 (length self.old - floor) ++ (replicate n Null ++ keep floor self.old)) }
         ensures names { (m : ℕ) → All (NamesBelow m) self.old → All (NamesBelow m) self.new }

@@ -8,11 +8,14 @@ ghost use Rattle.vm_course.specs.Step.{throws_around, without_try};
 use std::alloc::{AllocError, Global};
 use std::marker::Model;
 
-/// Where a throw lands: how many frames are left then, how long the stack is, and the place that goes on.
+/// Where a throw lands.
 #[derive(Clone, Copy)]
 pub struct ThrowFrame {
+    /// How many frames are left then, that of the catch among them.
     pub frames: u32,
+    /// How many values of the stack are left then.
     pub height: u32,
+    /// The place in the code that goes on.
     pub catch: u32,
 }
 

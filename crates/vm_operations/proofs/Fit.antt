@@ -1,13 +1,9 @@
 -- What a machine keeps.
-use Rattle.std.proofs.Common.{◌≡◌, ◌≤◌, ◌<◌, ◌+◌, ℕ, zero, suc, List, [], ◌∷◌, ◌++◌, Bool, true, false, cond, length, map, All, Option, Some, None, arith, refl, ap, sym, subst, ◌∙◌, length-append}
-use Rattle.std.proofs.lemmas.List.Elements.{All-map, All-head, All-tail, All-nil, All-cons}
+use Rattle.std.proofs.Common.{◌≤◌, ℕ, List, [], ◌∷◌, Bool, true, false, cond, length, map, All, Option, Some, None, arith}
+use Rattle.std.proofs.lemmas.List.Elements.{All-head, All-tail, All-nil, All-cons}
 use Rattle.std.specs.Prelude.{nat_lt, ◌==◌, IfSome}
 use Rattle.hog_value.specs.Values.{Val, NamesBelow}
 use Rattle.hog_value.specs.declared.value.Value.TheVariants.{Null, Bool as Truth, Int, Ref}
-use Rattle.std.proofs.lemmas.Option.{none-some}
-use Rattle.std.specs.Prelude.{slice_get, option_map}
-use Rattle.vm_frames.specs.declared.upvalues.Upvalue as u
-use Rattle.vm_frames.specs.Views.{upvalue_of}
 use Rattle.vm_course.specs.State.{Upvalue, Opened, Closed}
 use Rattle.vm_course.specs.Stack.{close, value_at, with_value, or_null}
 use Rattle.vm_frames.specs.Parts.{ClosedBelow}

@@ -6,3 +6,5 @@ mod Answered
 mod Paths
 mod JumpLemmas
 mod Steps
+mod Making
+mod Calling

@@ -1,5 +1,5 @@
 -- The operands of an operation, one after the other from the top.
-use Rattle.std.proofs.Common.{◌≡◌, ℕ, List, length, refl, ap, ap₂, sym, ◌∙◌}
+use Rattle.std.proofs.Common.{◌≡◌, ℕ, List, length, refl, ap, sym, ◌∙◌}
 use Rattle.std.proofs.Common.{cond}
 use Rattle.hog_value.specs.declared.value.Value.TheVariants.{Null, Bool as Truth, Int, Ref}
 use Rattle.hog_meaning.specs.Meaning.{is_null}

@@ -2,3 +2,4 @@ pub mod Here
 pub mod Seen
 pub mod Kinds
 pub mod Machine
+pub mod Calls

@@ -13,9 +13,9 @@ ghost use Rattle.vm_operations.specs.Here.{here_of, Does};
 ghost use Rattle.vm_frames.specs.Views.{upvalue_of as view_of};
 
 use crate::state::State;
-use vm_frames::upvalues::Upvalue;
 use hog_value::{Cell, End, Heap, Value};
 use std::alloc::{AllocError, Global};
+use vm_frames::upvalues::Upvalue;
 
 /// The numbers of the upvalues that a frame's function has captured. Takes no memory.
 pub(crate) fn captured_by(heap: &Heap, function: Option<u32>) -> &[u32]

@@ -1,9 +1,6 @@
-use Rattle.std.proofs.Common.{◌≡◌, List, sym, ap, ◌∙◌}
-use Rattle.hog_value.specs.Values.{Val}
-use Rattle.vm_course.specs.State.{State}
+use Rattle.std.proofs.Common.{sym, ◌∙◌}
 use Rattle.vm_course.specs.Step.{act}
 use Rattle.vm_course.specs.Throws.{throw_value}
-use Rattle.vm_operations.specs.Here.{here_of}
 use Rattle.vm_operations.proofs.Landing.{on_ok}
 use Rattle.vm_operations.proofs.Tops.{by_one}
 use Rattle.vm_operations.proofs.state.State.throw.Goals as goal
