@@ -8,3 +8,5 @@ mod JumpLemmas
 mod Steps
 mod Making
 mod Calling
+mod Waits
+mod Standing

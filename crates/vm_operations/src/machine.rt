@@ -1,7 +1,8 @@
 //! The machine: a state, how many operations it has done, and whether it has met want of memory.
 
-ghost use Rattle.std.specs.Prelude.{◌≡◌, ◌↔◌, ◌+◌, ◌<◌, ◌≤◌, ◌^◌, true, false, IsTrue, IsSome, OnOk, OnErr, length};
+ghost use Rattle.std.specs.Prelude.{◌≡◌, ◌↔◌, ◌+◌, ◌<◌, ◌≤◌, ◌^◌, true, false, IsTrue, IsSome, OnOk, OnErr, length, option_and_then};
 ghost use Rattle.std.specs.Bool.{OnFalse};
+ghost use Rattle.std.specs.List.{last_or};
 ghost use Rattle.std.specs.Option.{option_copied};
 ghost use Rattle.hog_value.specs.Values.{Val};
 ghost use Rattle.hog_value.specs.Cells.{IsCovered};
@@ -10,10 +11,10 @@ ghost use Rattle.vm_course.specs.State.{Running, Waiting};
 ghost use Rattle.vm_course.specs.Course.{shown_by};
 ghost use Rattle.vm_course.specs.Run.{begun_with, resumed};
 ghost use Rattle.vm_course.specs.Belongs.{literals_belong};
-ghost use Rattle.vm_operations.specs.Machine.{HasEnded, asked_by, one_read};
+ghost use Rattle.vm_operations.specs.Machine.{HasEnded, request_of, asked_by, one_read};
 
 use crate::state::State;
-use hog_value::{End, Heap, HogText, Meter, Request, Shown, TraceItem};
+use hog_value::{End, Heap, HogText, Meter, Request, Shown, Trace, TraceItem};
 use std::alloc::{AllocError, Global};
 use std::marker::Model;
 use vm_course::laws::heap_grows;
@@ -36,11 +37,23 @@ impl Model for Machine {
     ghost Value = { MachineView };
 
     ghost use Rattle.std.specs.Bool.{OnFalse};
+ghost use Rattle.std.specs.List.{last_or};
     ghost use Rattle.vm_operations.specs.Machine.{IsStanding};
 
     ghost view = { λ m. record { run = record { ops = m.ops; used = m.used; globals = m.globals; state = m.state }; spent = m.spent } };
 
     ghost invariant = { λ m. OnFalse m.spent (IsStanding (record { ops = m.ops; used = m.used; globals = m.globals; state = m.state })) };
+}
+
+/// The request that is the last item of a trace. Takes no memory.
+fn last_request(trace: &Trace) -> Option<&Request>
+    ensures { option_copied result ≡ option_and_then request_of (last_or None trace.now) }
+{
+    match trace.items().last() {
+        Some(TraceItem::Asked(request)) => Some(request),
+        Some(TraceItem::Printed(_)) => None,
+        None => None,
+    }
 }
 
 impl Machine {
@@ -108,10 +121,7 @@ impl Machine {
         if !self.is_waiting() {
             return None;
         }
-        match self.state.shown.trace.items().last() {
-            Some(TraceItem::Asked(request)) => Some(request),
-            _ => None,
-        }
+        last_request(&self.state.shown.trace)
     }
 
     /// Whether it has met want of memory. Takes no memory.
