@@ -1,17 +1,14 @@
 -- A table that was built of a code keeps what tables keep.
-use Rattle.std.proofs.Common.{◌≡◌, ◌≤◌, ℕ, ◌+◌, ◌<◌, ◌^◌, List, length, Some, sym, ap, ◌∙◌, subst, arith, ap₂}
+use Rattle.std.proofs.Common.{◌≡◌, ℕ, ◌+◌, ◌<◌, ◌^◌, List, length, sym, ap, ◌∙◌, subst, arith, ap₂}
 use Rattle.std.specs.Prelude.{slice_get}
 use Rattle.std.specs.List.{filter_map}
-use Rattle.std.proofs.lemmas.List.{length-map}
-use Rattle.hog_ops.specs.Plain.{Op, Ops}
+use Rattle.hog_ops.specs.Plain.{Ops}
 use Rattle.hog_ops.specs.Table.{size, span}
 use Rattle.hog_ops.specs.Valid.{IsCode}
-use denote.Ref.{Bor}
 use Rattle.vm_course.specs.Course.{literals_of_code}
 use Rattle.vm_course.specs.Fits.{OpFits}
 use Rattle.vm_course.specs.Laws.{CodesFit, CodesCount}
-use Rattle.vm_course.specs.State.{Slot, Begins, code_slots}
-use Rattle.vm_frames.specs.Places.{shown}
+use Rattle.vm_course.specs.State.{Slot, code_slots}
 use Rattle.vm_frames.specs.Reading.{Reading, IsTable, AllKnown, text_in, distinct, numbers_of, reading_of}
 use Rattle.vm_frames.proofs.Texts.{all_known, code_texts, distinct_length}
 

@@ -1,10 +1,9 @@
 -- The elements of a code, one operation after another.
-use Rattle.std.proofs.Common.{◌≡◌, ◌≤◌, ℕ, zero, suc, ◌+◌, ◌<◌, List, [], ◌∷◌, ◌++◌, length, take, get_or, map, refl, sym, ap, ◌∙◌, arith, append_assoc, append-nil}
+use Rattle.std.proofs.Common.{◌≡◌, ◌≤◌, ℕ, zero, suc, ◌+◌, ◌<◌, List, [], ◌∷◌, ◌++◌, length, take, get_or, refl, sym, ap, ◌∙◌, arith, append_assoc, append-nil}
 use Rattle.std.specs.Prelude.{replicate}
 use Rattle.std.proofs.lemmas.List.{take_more, map-append}
 use Rattle.hog_ops.specs.declared.operation.Op.{Op}
 use Rattle.hog_ops.specs.declared.capture.Capture.{Capture}
-use Rattle.hog_ops.specs.Plain as p
 use Rattle.hog_ops.specs.Plain.{Ops, NoOp, MoreOp, Callable, ◌⊕◌}
 use Rattle.hog_ops.specs.Table.{size, span}
 use Rattle.hog_ops.specs.View.{op_of, ops_of, ops_of-append}

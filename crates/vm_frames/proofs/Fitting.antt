@@ -1,13 +1,13 @@
 -- What is known of an operation of a table.
-use Rattle.std.proofs.Common.{◌≡◌, ◌≤◌, ℕ, zero, suc, ◌+◌, ◌<◌, ◌^◌, List, [], ◌∷◌, length, get_or, map, Option, Some, None, Bool, true, false, eqb, refl, sym, ap, ◌∙◌, subst, arith}
-use Rattle.std.specs.Prelude.{ℤ, slice_get, option_map, option_and_then}
+use Rattle.std.proofs.Common.{◌≡◌, ◌≤◌, ℕ, ◌+◌, ◌<◌, ◌^◌, List, length, get_or, Option, Some, None, true, refl, sym, ap, ◌∙◌, subst, arith}
+use Rattle.std.specs.Prelude.{slice_get, option_map, option_and_then}
 use Rattle.std.proofs.lemmas.Bool.Decides.{nat_tests}
 use Rattle.std.proofs.lemmas.List.{length-map}
 use Rattle.std.proofs.lemmas.Option.{slice_get-map, slice_get-get_or, slice_get_within}
 use Rattle.hog_ops.specs.Plain.{Op, Str}
 use Rattle.hog_ops.specs.Table.{Row, Alone, Counts, Leads, Calls, Spells, Gives, Holds, row, size}
 use Rattle.hog_meaning.specs.Meaning.{place_in}
-use Rattle.vm_course.specs.State.{Slot, Begins, BodyEnds, Operand}
+use Rattle.vm_course.specs.State.{Slot, Begins}
 use Rattle.vm_course.specs.Step.{place_at}
 use Rattle.vm_course.specs.Belongs.{stands_at, is_place}
 use Rattle.vm_course.specs.Fits.{OpFits, row_leads_to}
@@ -17,7 +17,7 @@ use denote.Ref.{Bor}
 use Rattle.vm_frames.specs.declared.slots.Slot as p
 use Rattle.vm_frames.specs.declared.slots.Slot.TheVariants as v
 use Rattle.vm_frames.specs.Places.{slot_of}
-use Rattle.vm_frames.specs.Reading.{Reading, IsTable, LeadsNear, text_in, number_of, numbers_of}
+use Rattle.vm_frames.specs.Reading.{Reading, IsTable, LeadsNear, text_in, number_of}
 
 -- a place is not behind the end
 place_within : (code : List Slot) (place : ℕ) → is_place code place ≡ true → place ≤ length code

@@ -10,6 +10,8 @@ mod literals;
 mod slots;
 pub mod stack;
 pub mod table;
+#[cfg(test)]
+mod tests;
 pub mod throws;
 pub mod upvalues;
 

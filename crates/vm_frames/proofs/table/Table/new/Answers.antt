@@ -1,7 +1,7 @@
-use Rattle.std.proofs.Common.{length, arith, ap, sym, subst, ◌∙◌}
+use Rattle.std.proofs.Common.{length, arith, ap, ◌∙◌}
 use Rattle.std.proofs.lemmas.List.{length-map}
 use Rattle.vm_frames.specs.Places.{slots_of, shown}
-use Rattle.vm_frames.specs.Reading.{AllKnown, distinct, text_in, numbers_of}
+use Rattle.vm_frames.specs.Reading.{distinct, text_in}
 use Rattle.std.specs.List.{filter_map}
 use Rattle.vm_frames.proofs.Built.{few_literals, known, keeps, is_reading}
 use Rattle.vm_frames.proofs.table.Table.new.Goals as goal
