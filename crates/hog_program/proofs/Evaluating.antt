@@ -13,7 +13,7 @@ use Rattle.hog_meaning.specs.Program.{first_cells, shows, meaning}
 use Rattle.vm_course.specs.State.{Slot, code_slots, Running, Waiting, Ended, Mode, State}
 use Rattle.vm_course.specs.Step.{step, step_in, take_reply}
 use Rattle.vm_course.specs.Course.{literals_of_code, started, fixed_by, steps, machine, is_over_in, IsOver, IsDefined, end_in}
-use Rattle.vm_course.specs.Run.{RunState, with_replies, AreLeft, IsRunOf}
+use Rattle.vm_course.specs.Run.{RunState, with_replies, IsRunOf}
 use Rattle.hog_tree.specs.Plain.{Stms}
 use Rattle.hog_compiler.specs.Code.{code_of}
 use Rattle.hog_bridge.specs.Laws.{WaitsAlike, IsNamed, IsOnMeaning, CourseIsMeaning, CourseIsBounded, operations, op_operations}
@@ -69,11 +69,18 @@ module _ (code : Ops) (globals : List ℕ) (r : RunState) (on : IsRunOf code glo
   abbrev behind : State
   behind = machine code globals [] (r.ops - 1)
 
+  -- the run's state is the machine's
+  same : r.state ≡ behind
+  same = ap (λ rs. with_replies rs r.state) (on.none_left ∙ sym (drop_all r.used [] (omega arith))) ∙ on.state
+
   mode_is : behind.mode ≡ r.state.mode
-  mode_is = sym (ap (λ (s : State). s.mode) on.state)
+  mode_is = sym (ap (λ (s : State). s.mode) same)
 
   trace_is : behind.trace ≡ r.state.trace
-  trace_is = sym (ap (λ (s : State). s.trace) on.state)
+  trace_is = sym (ap (λ (s : State). s.trace) same)
+
+  none_left : behind.replies ≡ []
+  none_left = sym (ap (λ (s : State). s.replies) same) ∙ on.none_left
 
   pub is_short : (whole : Stms) → CourseIsBounded → IsNamed whole → code ≡ code_of whole → IsCode code → r.state.mode ≡ Running → r.state.turns ≤ max_turns → r.ops < 2 ^ 49
   is_short whole short named is_code valid running few =
@@ -81,27 +88,27 @@ module _ (code : Ops) (globals : List ℕ) (r : RunState) (on : IsRunOf code glo
       let bound : suc k ≤ 1 + (behind.turns + 1) * (operations code + 1) =
           subst (λ c. IsDefined c globals [] (suc k) → suc k ≤ 1 + ((machine c globals [] k).turns + 1) * (operations c + 1)) (sym is_code) (short whole named globals [] k)
           (is_defined code globals [] k (mode_is ∙ running)) in
-      let turns : behind.turns ≤ 100000 = subst (λ n. n ≤ 100000) (ap (λ (s : State). s.turns) on.state) few in
+      let turns : behind.turns ≤ 100000 = subst (λ n. n ≤ 100000) (ap (λ (s : State). s.turns) same) few in
       let many : operations code < 2 ^ 32 = omega (arith, ops_few code, valid.short) in
       let product : (behind.turns + 1) * (operations code + 1) ≤ 100001 * 4294967296 =
           mul-le (behind.turns + 1) (operations code + 1) 100001 4294967296 (omega arith) (omega arith) in
       omega (arith, on.begun, bound, product)
 
-  shows_by : (whole : Stms) → IsOnMeaning whole globals [] → code ≡ code_of whole → (m : Mode) → r.state.mode ≡ m → (m ≡ Running → ⊥) → AreLeft m behind.replies (drop r.used [])
+  shows_by : (whole : Stms) → IsOnMeaning whole globals [] → code ≡ code_of whole → (m : Mode) → r.state.mode ≡ m → (m ≡ Running → ⊥)
       → meaning whole globals [] ≡ record { trace = r.state.trace; end = end_in m }
   unfolding meaning
-  shows_by whole law is_code Running e over left = absurd (over refl)
-  shows_by whole law is_code Waiting e over left =
+  shows_by whole law is_code Running e over = absurd (over refl)
+  shows_by whole law is_code Waiting e over =
       let k = r.ops - 1 in
-      let same : machine (code_of whole) globals [] k ≡ behind = ap (λ c. machine c globals [] k) (sym is_code) in
+      let there : machine (code_of whole) globals [] k ≡ behind = ap (λ c. machine c globals [] k) (sym is_code) in
       waits_so _ (machine (code_of whole) globals [] k)
-      (law.waits k (ap (λ (s : State). s.mode) same ∙ mode_is ∙ e) (ap (λ (s : State). s.replies) same ∙ left ∙ drop_all r.used [] (omega arith)))
-      ∙ ap (λ t. record { trace = t; end = None }) (ap (λ (s : State). s.trace) same ∙ trace_is)
-  shows_by whole law is_code (Ended x) e over left =
+      (law.waits k (ap (λ (s : State). s.mode) there ∙ mode_is ∙ e) (ap (λ (s : State). s.replies) there ∙ none_left))
+      ∙ ap (λ t. record { trace = t; end = None }) (ap (λ (s : State). s.trace) there ∙ trace_is)
+  shows_by whole law is_code (Ended x) e over =
       let k = r.ops - 1 in
-      let same : machine (code_of whole) globals [] k ≡ behind = ap (λ c. machine c globals [] k) (sym is_code) in
-      law.ended k x (ap (λ (s : State). s.mode) same ∙ mode_is ∙ e)
-      ∙ ap (λ t. record { trace = t; end = Some x }) (ap (λ (s : State). s.trace) same ∙ trace_is)
+      let there : machine (code_of whole) globals [] k ≡ behind = ap (λ c. machine c globals [] k) (sym is_code) in
+      law.ended k x (ap (λ (s : State). s.mode) there ∙ mode_is ∙ e)
+      ∙ ap (λ t. record { trace = t; end = Some x }) (ap (λ (s : State). s.trace) there ∙ trace_is)
 
   pub shows_meaning : CourseIsMeaning → (r.state.mode ≡ Running → ⊥) → ShowsMeaning code globals r.state
-  shows_meaning law over whole named is_code = shows_by whole (law whole named globals []) is_code r.state.mode refl over on.left
+  shows_meaning law over whole named is_code = shows_by whole (law whole named globals []) is_code r.state.mode refl over

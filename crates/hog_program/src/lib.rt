@@ -5,14 +5,14 @@
 //! refusal, and never both, so each refusal comes exactly where it should.
 #![tactic(auto)]
 
-// pub mod evaluation;
+pub mod evaluation;
 pub mod laws;
 mod prelude;
 pub mod program;
 pub mod source;
 pub mod stop;
 
-// pub use evaluation::evaluate;
+pub use evaluation::evaluate;
 pub use program::Program;
 pub use source::{read_tree, read_whole};
 pub use stop::BuildStop;
