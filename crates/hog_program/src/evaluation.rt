@@ -12,9 +12,8 @@ use std::alloc::Global;
 use vm_course::laws::{begins_on_course, slices_on_course};
 use vm_operations::Machine;
 
-/// How many operations are done at a time, and how many times at most: by the bound of its course no program does so many.
+/// How many operations are done at a time.
 const SLICE: u32 = u32::MAX;
-const MOST_SLICES: u32 = 200_000;
 
 /// The machine of a compiled program on the JSON text of its globals, at its end or at the first request that it waits for:
 /// it shows all that the program means without replies. Each program comes to that. NotAnObject comes only where the text
@@ -29,11 +28,13 @@ pub fn evaluate(alloc: Global, code: &Code, globals: &HogText) -> Result<Machine
     begins_on_course();
     slices_on_course();
     let mut machine = Machine::start(alloc, code, globals)?;
-    for _ in 0..MOST_SLICES {
+    loop {
         match machine.run(alloc, code, SLICE)? {
-            Pause::Sliced => {}
+            // The turns bound the operations.
+            Pause::Sliced => {
+                let _turns = machine.turns();
+            }
             Pause::Asks | Pause::Ended => return Ok(machine),
         }
     }
-    unreachable!()
 }

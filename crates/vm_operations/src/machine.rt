@@ -4,6 +4,7 @@ ghost use Rattle.std.specs.Prelude.{◌≡◌, ◌↔◌, ◌+◌, ◌<◌, ◌�
 ghost use Rattle.std.specs.Bool.{OnFalse};
 ghost use Rattle.std.specs.List.{last_or};
 ghost use Rattle.std.specs.Option.{option_copied};
+ghost use Rattle.hog_value.specs.Meters.{max_turns};
 ghost use Rattle.hog_value.specs.Values.{Val};
 ghost use Rattle.hog_value.specs.Cells.{IsCovered};
 ghost use Rattle.hog_value.specs.Operations.{Gives, Spends};
@@ -97,6 +98,14 @@ impl Machine {
         ensures { result ≡ self.now.run.ops }
     {
         self.ops
+    }
+
+    /// How many turns were spent. Takes no memory.
+    pub fn turns(&self) -> u32
+        ensures turns { result ≡ self.now.run.state.turns }
+        ensures few { result ≤ max_turns }
+    {
+        self.state.turns()
     }
 
     /// What was shown so far, and the end where the machine has ended. Takes no memory.

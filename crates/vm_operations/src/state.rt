@@ -199,6 +199,15 @@ impl State {
         self.stack.set(place, v);
     }
 
+    /// How many turns were spent. Takes no memory.
+    pub(crate) fn turns(&self) -> u32
+        ensures turns { result ≡ self.now.turns }
+        ensures few { result ≤ max_turns }
+    {
+        let meter = self.meter;
+        meter.turns
+    }
+
     /// Spends a turn, where one is left. Takes no memory.
     pub(crate) fn spend_turn(&mut self) -> bool
         ensures left { IsTrue result ↔ (self.old.turns < max_turns) }
