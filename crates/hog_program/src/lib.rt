@@ -11,6 +11,8 @@ mod prelude;
 pub mod program;
 pub mod source;
 pub mod stop;
+#[cfg(test)]
+mod tests;
 
 pub use evaluation::evaluate;
 pub use program::Program;
