@@ -6,6 +6,7 @@ ghost use Rattle.hog_ops.specs.Plain.{Str};
 ghost use Rattle.hog_ops.specs.Table.{row, size};
 ghost use Rattle.hog_ops.specs.View.{op_of};
 ghost use Rattle.vm_course.specs.Fits.{OpFits};
+ghost use Rattle.vm_course.specs.Belongs.{is_place};
 ghost use Rattle.vm_course.specs.State.{Begins, params_at};
 ghost use Rattle.vm_frames.specs.Places.{slot_of};
 ghost use Rattle.vm_frames.specs.Reading.{reading_of, BeginsNone, LeadsNear};
@@ -106,6 +107,18 @@ impl<'c> Table<'c> {
         match self.slot(place.saturating_sub(5)) {
             Some(Slot::Begins(Op::Callable(function))) => Some(function.params),
             _ => None,
+        }
+    }
+
+    /// Whether a frame may stand at a place: where an operation begins, where a body ends, or behind the last operation.
+    /// Takes no memory.
+    pub fn is_place(&self, place: u32) -> bool
+        ensures { result ≡ is_place self.now.slots place }
+    {
+        match self.slots.get(place as usize) {
+            Some(Slot::Operand) => false,
+            Some(_) => true,
+            None => place as usize == self.slots.len(),
         }
     }
 

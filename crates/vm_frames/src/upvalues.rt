@@ -107,6 +107,13 @@ impl Upvalues {
         Ok(Upvalues { list, by_place })
     }
 
+    /// The upvalues, by number. Takes no memory.
+    pub fn list(&self) -> &[Upvalue]
+        ensures { self.now ≡ map upvalue_of result.now }
+    {
+        self.list.as_slice()
+    }
+
     /// The upvalue with a number. Takes no memory.
     pub fn get(&self, number: u32) -> Option<Upvalue>
         ensures value { option_map upvalue_of result ≡ slice_get self.now number }
