@@ -6,6 +6,7 @@
 #![tactic(auto)]
 
 mod slice;
+mod start;
 pub mod steps;
 
 pub use steps::{Pause, StartStop, Steps};

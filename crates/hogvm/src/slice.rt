@@ -1,7 +1,6 @@
 //! A slice of a run.
 
-ghost use Rattle.std.specs.Prelude.{◌≡◌, ◌↔◌, ◌+◌, ◌<◌, ◌^◌, true, false, IsTrue, OnOk};
-ghost use Rattle.vm_course.specs.State.{Running};
+ghost use Rattle.std.specs.Prelude.{◌≡◌, ◌+◌, ◌<◌, ◌^◌, true, false, OnOk};
 ghost use Rattle.vm_course.specs.Run.{run_for};
 ghost use Rattle.vm_course.specs.Belongs.{belongs};
 ghost use Rattle.hogvm.specs.Calls.{pause_of};
@@ -9,7 +8,7 @@ ghost use Rattle.hogvm.specs.Calls.{pause_of};
 use crate::steps::Pause;
 use hog_ops::Code;
 use std::alloc::{AllocError, Global};
-use vm_course::laws::slices_compose;
+use vm_course::laws::{keeps_belonging, slices_compose};
 use vm_frames::Table;
 use vm_operations::Machine;
 
@@ -26,13 +25,6 @@ pub(crate) fn pause(machine: &Machine) -> Pause
     }
 }
 
-/// Whether a machine goes on. Takes no memory.
-fn goes_on(machine: &Machine) -> bool
-    ensures { IsTrue result ↔ (machine.now.run.state.mode ≡ Running) }
-{
-    !machine.has_ended() && !machine.is_waiting()
-}
-
 /// At most `slice` operations; fewer where the machine waits or ends. The code is read once, and only where it goes on.
 pub(crate) fn go(machine: &mut Machine, alloc: Global, code: &Code, slice: u32) -> Result<(), AllocError>
     requires fresh { machine.old.spent ≡ false }
@@ -42,14 +34,15 @@ pub(crate) fn go(machine: &mut Machine, alloc: Global, code: &Code, slice: u32) 
     ensures fresh { OnOk result (machine.new.spent ≡ false) }
     ensures belongs { OnOk result (belongs code.now machine.new.run ≡ true) }
 {
-    if !goes_on(machine) {
+    if !machine.goes_on() {
         return Ok(());
     }
     let table = Table::new(alloc, code)?;
     let _ops = code.ops();
     slices_compose();
-    for _ in 0..slice {
-        if !goes_on(machine) {
+    keeps_belonging();
+    for _i in 0..slice {
+        if !machine.goes_on() {
             return Ok(());
         }
         machine.step(alloc, &table)?;

@@ -1,10 +1,12 @@
 //! What is done with a machine.
 
 use crate::slice::{go, pause};
+use crate::start::{begin, check_globals};
 use cyclotron_jobs::Reply;
 use hog_ops::Code;
 use hog_value::HogText;
 use std::alloc::{AllocError, Global};
+use vm_course::laws::{begins_belonging, replies_belong};
 use vm_operations::Machine;
 
 /// How a slice of a run ends.
@@ -101,7 +103,10 @@ impl Steps for Machine {
     ghost held = { λ m. m };
 
     fn start(alloc: Global, code: &Code, globals: &HogText) -> Result<Machine, StartStop> {
-        unreachable!()
+        check_globals(alloc, globals)?;
+        let _ops = code.ops();
+        begins_belonging();
+        Ok(begin(alloc, code, globals)?)
     }
 
     fn run(&mut self, alloc: Global, code: &Code, slice: u32) -> Result<Pause, AllocError> {
@@ -121,6 +126,7 @@ impl Steps for Machine {
         if self.is_spent() {
             return Err(AllocError);
         }
+        replies_belong();
         self.take_reply(alloc, reply.status, &reply.body)
     }
 }

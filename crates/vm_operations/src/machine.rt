@@ -10,7 +10,7 @@ ghost use Rattle.hog_value.specs.Cells.{IsCovered};
 ghost use Rattle.hog_value.specs.Operations.{Gives, Spends};
 ghost use Rattle.vm_course.specs.State.{Running, Waiting};
 ghost use Rattle.vm_course.specs.Course.{shown_by};
-ghost use Rattle.vm_course.specs.Run.{begun_with, resumed};
+ghost use Rattle.vm_course.specs.Run.{begun_with, where_running, resumed};
 ghost use Rattle.vm_course.specs.Belongs.{literals_belong};
 ghost use Rattle.vm_operations.specs.Machine.{HasEnded, request_of, asked_by, one_read};
 
@@ -55,6 +55,22 @@ fn last_request(trace: &Trace) -> Option<&Request>
         Some(TraceItem::Printed(_)) => None,
         None => None,
     }
+}
+
+/// Whether a state goes on. Takes no memory.
+fn goes_on(state: &State) -> bool
+    ensures { IsTrue result ↔ (state.now.mode ≡ Running) }
+{
+    !state.waiting && state.shown.end.is_none()
+}
+
+/// How many replies were used, one more where the state that a reply has left goes on: its response has fit then. Takes no
+/// memory.
+fn used_after(state: &State, used: u64) -> u64
+    requires { used + 1 < 2 ^ 64 }
+    ensures { result ≡ where_running state.now.mode (used + 1) used }
+{
+    if goes_on(state) { used + 1 } else { used }
 }
 
 impl Machine {
@@ -140,6 +156,13 @@ impl Machine {
         self.spent
     }
 
+    /// Whether it goes on. Takes no memory.
+    pub fn goes_on(&self) -> bool
+        ensures { IsTrue result ↔ (self.now.run.state.mode ≡ Running) }
+    {
+        goes_on(&self.state)
+    }
+
     /// Whether it waits for a reply. Takes no memory.
     pub fn is_waiting(&self) -> bool
         ensures { IsTrue result ↔ (self.now.run.state.mode ≡ Waiting) }
@@ -184,8 +207,8 @@ impl Machine {
         }
     }
 
-    /// Takes in a reply, which is one operation. Where the response doesn't fit, memory is spent. After want of memory the
-    /// machine is spent.
+    /// Takes in a reply, which is one operation. Where the response doesn't fit, memory is spent, and the reply isn't counted
+    /// as used. After want of memory the machine is spent.
     pub fn take_reply(
         &mut self,
         alloc: Global,
@@ -204,7 +227,7 @@ impl Machine {
         match self.state.take_reply(alloc, status, body) {
             Ok(()) => {
                 self.ops += 1;
-                self.used += 1;
+                self.used = used_after(&self.state, self.used);
                 Ok(())
             }
             Err(want) => {

@@ -10,4 +10,4 @@ invariant_of-self c =
     let i = c.self.inside in
     let reply : Reply = record { status = c.args.status; body = c.args.body.now } in
     let r : RunState = record { ops = i.ops; used = i.used; globals = i.globals; state = i.state } in
-    on_fresh i.spent (stands_replied c.heap_grows.ensures reply r c.take_reply.new.self (i.ops + 1) (i.used + 1) (ap (λ (m : MachineView). m.run.state.mode) c.self.view_is ∙ c.requires.waits) c.in-Ok.ensures) c.self.invariant
+    on_fresh i.spent (stands_replied c.heap_grows.ensures reply r c.take_reply.new.self (i.ops + 1) c.used_after-self-inside.result (ap (λ (m : MachineView). m.run.state.mode) c.self.view_is ∙ c.requires.waits) c.in-Ok.ensures) c.self.invariant
