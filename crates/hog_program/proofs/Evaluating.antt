@@ -17,6 +17,8 @@ use Rattle.vm_course.specs.Run.{RunState, with_replies, IsRunOf}
 use Rattle.hog_tree.specs.Plain.{Stms}
 use Rattle.hog_compiler.specs.Code.{code_of}
 use Rattle.hog_bridge.specs.Laws.{WaitsAlike, IsNamed, IsOnMeaning, CourseIsMeaning, CourseIsBounded, operations, op_operations}
+use Rattle.hogvm.specs.declared.steps.Pause.TheVariants as pause
+use Rattle.hogvm.specs.Calls.{pause_of}
 use Rattle.hog_program.specs.Evaluation.{ShowsMeaning}
 
 module _ (fixed : Fixed) (code : List Slot) where
@@ -48,6 +50,22 @@ unfolding machine
 is_defined code globals replies k running j before over =
     let cells = first_cells (literals_of_code code) globals in
     not_over (fixed_by (literals_of_code code) cells) (code_slots code) j k (started replies cells) (omega arith) running over
+
+-- a slice that is done leaves a machine that runs; one that isn't leaves none
+pub running_if : (m : Mode) → pause_of m ≡ pause.Sliced → m ≡ Running
+running_if Running e = refl
+running_if Waiting e = absurd cc
+running_if (Ended x) e = absurd cc
+
+pub asks_not : (m : Mode) → pause_of m ≡ pause.Asks → m ≡ Running → ⊥
+asks_not Running e running = absurd cc
+asks_not Waiting e running = absurd cc
+asks_not (Ended x) e running = absurd cc
+
+pub ended_not : (m : Mode) → pause_of m ≡ pause.Ended → m ≡ Running → ⊥
+ended_not Running e running = absurd cc
+ended_not Waiting e running = absurd cc
+ended_not (Ended x) e running = absurd cc
 
 -- an operation takes at least one element
 mutual

@@ -27,6 +27,7 @@ pub fn evaluate(alloc: Global, code: &Code, globals: &HogText) -> Result<Machine
     course_is_bounded();
     begins_on_course();
     slices_on_course();
+    let _ops = code.ops();
     let mut machine = Machine::start(alloc, code, globals)?;
     loop {
         match machine.run(alloc, code, SLICE)? {
@@ -34,7 +35,8 @@ pub fn evaluate(alloc: Global, code: &Code, globals: &HogText) -> Result<Machine
             Pause::Sliced => {
                 let _turns = machine.turns();
             }
-            Pause::Asks | Pause::Ended => return Ok(machine),
+            Pause::Asks => return Ok(machine),
+            Pause::Ended => return Ok(machine),
         }
     }
 }
