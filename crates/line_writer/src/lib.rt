@@ -7,4 +7,6 @@
 
 pub mod output;
 
-pub use output::{OutputStop, write_end, write_line, write_run, write_shown, write_trace, write_whole};
+pub use output::{
+    OutputStop, write_end, write_line, write_run, write_shown, write_trace, write_whole,
+};

@@ -150,7 +150,12 @@ fn answers(rt: HostRuntime) -> Result<(), Fail> {
             0,
             "threw \"{'type': 'JsonError', 'message': 'bad json', 'payload': null}\"\n",
         ),
-        calm(&["eval"], "let f := x -> x * 2; return f(4);", 0, "result \"8\"\n"),
+        calm(
+            &["eval"],
+            "let f := x -> x * 2; return f(4);",
+            0,
+            "result \"8\"\n",
+        ),
         calm(
             &["eval"],
             "return fetch('http://h/').body;",
@@ -163,12 +168,7 @@ fn answers(rt: HostRuntime) -> Result<(), Fail> {
             0,
             "print \"[2, 4] [2] false\"\nresult \"null\"\n",
         ),
-        calm(
-            &["compile"],
-            "return 1;",
-            0,
-            "[\"_H\",1,33,1,38,31,38]\n",
-        ),
+        calm(&["compile"], "return 1;", 0, "[\"_H\",1,33,1,38,31,38]\n"),
         calm(
             &["compile"],
             "return 1 + 2;",
