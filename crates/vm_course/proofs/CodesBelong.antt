@@ -199,7 +199,7 @@ keeps_belonging code r is h =
 pub replies_belong : (code : Ops) (reply : Reply) (r : RunState) → belongs code r ≡ true → belongs code (resumed reply r) ≡ true
 replies_belong code reply r h =
     let slots = code_slots code in
-    moved_belongs code (r.ops + 1) (r.used + 1) r (take_reply (reply ∷ []) r.state) (reply_moves (IsFun slots) (IsAt slots) (reply ∷ []) r.state (sound_run code r h)) h
+    moved_belongs code (r.ops + 1) (resumed reply r).used r (take_reply (reply ∷ []) r.state) (reply_moves (IsFun slots) (IsAt slots) (reply ∷ []) r.state (sound_run code r h)) h
 
 either_belongs : (code : Ops) (m : Mode) (x y : RunState) → belongs code x ≡ true → belongs code y ≡ true → belongs code (where_running m x y) ≡ true
 either_belongs code Running x y h k = h

@@ -3,6 +3,6 @@ mod CodesFit
 mod CodesHeaps
 mod CodesMoves
 mod CodesGrow
-mod CodesBelong
+pub mod CodesBelong
 mod OnCourseReplies
 mod OnCourseRuns

@@ -19,7 +19,7 @@ use Rattle.vm_course.specs.Stack.{push}
 use Rattle.vm_course.specs.Throws.{on_outcome}
 use Rattle.vm_course.specs.Step.{step, step_in, take_reply}
 use Rattle.vm_course.specs.Course.{literals_of_code, started, fixed_by, steps, machine}
-use Rattle.vm_course.specs.Run.{RunState, globals_cell, begun_with, fixed_of, one_more, where_running, run_for, with_replies, AreLeft, IsRunOf}
+use Rattle.vm_course.specs.Run.{RunState, globals_cell, begun_with, fixed_of, one_more, where_running, run_for, with_replies, IsRunOf}
 use Rattle.vm_course.specs.Laws.{BeginsOnCourse, SlicesOnCourse, RepliesOnCourse}
 use Rattle.vm_course.proofs.OnCourseReplies.{step_same, step_leaves}
 
@@ -47,47 +47,37 @@ next code globals replies r is =
 
 -- beginning
 
-begins : (code : Ops) (replies : List Reply) (cells : Outcome FunCell Val) → (begun_with cells).state ≡ with_replies [] (started replies cells)
-begins code replies (op.Gives v h units) = refl
-begins code replies (op.Throws kind) = refl
-begins code replies op.Spends = refl
+begins : (replies : List Reply) (cells : Outcome FunCell Val) → with_replies replies (begun_with cells).state ≡ started replies cells
+begins replies (op.Gives v h units) = refl
+begins replies (op.Throws kind) = refl
+begins replies op.Spends = refl
 
-all_left : (replies : List Reply) (cells : Outcome FunCell Val) → AreLeft (started [] cells).mode (started replies cells).replies replies
-all_left replies (op.Gives v h units) = refl
-all_left replies (op.Throws kind) = tt
-all_left replies op.Spends = tt
+none_begun : (cells : Outcome FunCell Val) → (begun_with cells).state.replies ≡ []
+none_begun (op.Gives v h units) = refl
+none_begun (op.Throws kind) = refl
+none_begun op.Spends = refl
 
 pub begins_on_course : BeginsOnCourse
 unfolding machine
 begins_on_course code globals replies = record {
   begun = omega arith;
   cell = refl;
-  state = begins code replies (first_cells (literals_of_code code) globals);
-  left = all_left replies (first_cells (literals_of_code code) globals);
+  state = begins replies (first_cells (literals_of_code code) globals);
+  none_left = none_begun (first_cells (literals_of_code code) globals);
 }
 
 -- slices
 
-are_left : (m : Mode) (xs ys : List Reply) → xs ≡ ys → AreLeft m xs ys
-are_left Running xs ys e = e
-are_left Waiting xs ys e = e
-are_left (Ended end) xs ys e = tt
-
 goes_on : (code : Ops) (globals : List ℕ) (replies : List Reply) (r : RunState) → r.state.mode ≡ Running → IsRunOf code globals replies r → IsRunOf code globals replies (one_more code r)
-goes_on code globals replies r running is =
-    let s : State = machine code globals replies (r.ops - 1) in
-    let there : machine code globals replies ((r.ops + 1) - 1) ≡ step (fixed_of code r.globals) (code_slots code) s = next code globals replies r is in
-    let runs : s.mode ≡ Running = sym (ap (λ (x : State). x.mode) is.state) ∙ running in
-    let left : s.replies ≡ drop r.used replies = subst (λ m. AreLeft m s.replies (drop r.used replies)) running is.left in
-    record {
-      begun = omega arith;
-      cell = is.cell;
-      state =
-          ap (step (fixed_of code r.globals) (code_slots code)) is.state
-          ∙ step_same [] (fixed_of code r.globals) (code_slots code) s runs
-          ∙ sym (ap (with_replies []) there);
-      left = are_left (one_more code r).state.mode _ _ (ap (λ (x : State). x.replies) there ∙ step_leaves (fixed_of code r.globals) (code_slots code) s runs ∙ left);
-    }
+goes_on code globals replies r running is = record {
+  begun = omega arith;
+  cell = is.cell;
+  state =
+      sym (step_same (drop r.used replies) (fixed_of code r.globals) (code_slots code) r.state running)
+      ∙ ap (step (fixed_of code r.globals) (code_slots code)) is.state
+      ∙ sym (next code globals replies r is);
+  none_left = step_leaves (fixed_of code r.globals) (code_slots code) r.state running ∙ is.none_left;
+}
 
 pub slices_on_course : SlicesOnCourse
 slices_on_course code globals replies zero r is = is
@@ -151,15 +141,20 @@ response_unthrown status body h units =
 abbrev answered : List Reply → Outcome FunCell Val → State → State
 answered rest o s = on_outcome o (λ v s1. push v (record s1 { replies = rest; mode = Running })) s
 
-taken_same : (left rest : List Reply) (o : Outcome FunCell Val) (s : State) → IsUnthrown o → answered [] o (with_replies [] s) ≡ with_replies [] (answered rest o s)
-taken_same left rest (op.Gives v h units) s un = refl
-taken_same left rest (op.Throws kind) s un = absurd un
-taken_same left rest op.Spends s un = refl
+-- the next reply, and those behind it
+abbrev left_by : State → ℕ → List Reply → List Reply
+left_by after used replies = drop (where_running after.mode (used + 1) used) replies
 
-taken_left : (rest : List Reply) (o : Outcome FunCell Val) (s : State) → IsUnthrown o → AreLeft (answered rest o s).mode (answered rest o s).replies rest
-taken_left rest (op.Gives v h units) s un = refl
-taken_left rest (op.Throws kind) s un = absurd un
-taken_left rest op.Spends s un = tt
+taken_same : (replies : List Reply) (used : ℕ) (reply : Reply) (o : Outcome FunCell Val) (s : State) → IsUnthrown o → drop used replies ≡ reply ∷ drop (used + 1) replies
+    → with_replies (left_by (answered [] o s) used replies) (answered [] o s) ≡ answered (drop (used + 1) replies) o (with_replies (drop used replies) s)
+taken_same replies used reply (op.Gives v h units) s un first = refl
+taken_same replies used reply (op.Throws kind) s un first = absurd un
+taken_same replies used reply op.Spends s un first = refl
+
+none_taken : (o : Outcome FunCell Val) (s : State) → IsUnthrown o → s.replies ≡ [] → (answered [] o s).replies ≡ []
+none_taken (op.Gives v h units) s un none = refl
+none_taken (op.Throws kind) s un none = absurd un
+none_taken op.Spends s un none = none
 
 first_left : (replies : List Reply) (used : ℕ) (reply : Reply) → slice_get replies used ≡ Some reply → drop used replies ≡ reply ∷ drop (used + 1) replies
 first_left [] used reply e = absurd cc
@@ -172,21 +167,18 @@ waits_for_one fixed code s reply rest e f = ap (λ m. step_in m fixed code s) e 
 
 pub replies_on_course : RepliesOnCourse
 replies_on_course code globals replies reply r is waiting there =
-    let s : State = machine code globals replies (r.ops - 1) in
     let rest : List Reply = drop (r.used + 1) replies in
-    let o : Outcome FunCell Val = response reply.status reply.body s.heap s.units in
-    let un = response_unthrown reply.status reply.body s.heap s.units in
-    let left : s.replies ≡ drop r.used replies = subst (λ m. AreLeft m s.replies (drop r.used replies)) waiting is.left in
-    let waits : s.mode ≡ Waiting = sym (ap (λ (x : State). x.mode) is.state) ∙ waiting in
-    let after : machine code globals replies ((r.ops + 1) - 1) ≡ answered rest o s =
-    next code globals replies r is ∙ waits_for_one (fixed_of code r.globals) (code_slots code) s reply rest waits (left ∙ first_left replies r.used reply there) in
-    let same : take_reply (reply ∷ []) r.state ≡ with_replies [] (answered rest o s) =
-    ap (take_reply (reply ∷ [])) is.state ∙ taken_same (reply ∷ rest) rest o s un in
+    let s : State = with_replies (drop r.used replies) r.state in
+    let o : Outcome FunCell Val = response reply.status reply.body r.state.heap r.state.units in
+    let un = response_unthrown reply.status reply.body r.state.heap r.state.units in
+    let first = first_left replies r.used reply there in
     record {
       begun = omega arith;
       cell = is.cell;
-      state = same ∙ sym (ap (with_replies []) after);
-      left =
-          subst (λ (x : State). AreLeft (take_reply (reply ∷ []) r.state).mode x.replies rest) (sym after)
-          (subst (λ (x : State). AreLeft x.mode (answered rest o s).replies rest) (sym same) (taken_left rest o s un));
+      state =
+          taken_same replies r.used reply o r.state un first
+          ∙ sym (waits_for_one (fixed_of code r.globals) (code_slots code) s reply rest waiting first)
+          ∙ ap (step (fixed_of code r.globals) (code_slots code)) is.state
+          ∙ sym (next code globals replies r is);
+      none_left = none_taken o r.state un is.none_left;
     }

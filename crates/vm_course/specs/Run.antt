@@ -51,24 +51,21 @@ abbrev pub run_for : Ops → ℕ → RunState → RunState
 run_for code zero r = r
 run_for code (suc n) r = where_running r.state.mode (run_for code n (one_more code r)) r
 
--- a reply is taken in
+-- A reply is taken in. It counts as used where its response fits; where it doesn't, the run has ended.
+abbrev pub resumed_as : State → RunState → RunState
+resumed_as after r = record r { ops = r.ops + 1; used = where_running after.mode (r.used + 1) r.used; state = after }
+
 abbrev pub resumed : Reply → RunState → RunState
-resumed reply r = record r { ops = r.ops + 1; used = r.used + 1; state = take_reply (reply ∷ []) r.state }
+resumed reply r = resumed_as (take_reply (reply ∷ []) r.state) r
 
 -- the state with these replies to come
 abbrev pub with_replies : List Reply → State → State
 with_replies replies s = record s { replies = replies }
 
--- the replies that are still to come, of which there is nothing to say where a run has ended
-abbrev pub AreLeft : Mode → List Reply → List Reply → Type 0
-AreLeft Running left replies = left ≡ replies
-AreLeft Waiting left replies = left ≡ replies
-AreLeft (Ended e) left replies = Unit {0}
-
--- The run is that of a code on globals and replies, of which it has taken in the first: its state is the machine's after as
--- many operations, for which the other replies are still to come.
+-- The run is that of a code on globals and replies, of which it has taken in the first: with the others still to come, its
+-- state is the machine's after as many operations.
 pub record IsRunOf (code : Ops) (globals : List ℕ) (replies : List Reply) (r : RunState) : Type 0 where
   pub begun : 1 ≤ r.ops
   pub cell : r.globals ≡ globals_cell (first_cells (literals_of_code code) globals)
-  pub state : r.state ≡ with_replies [] (machine code globals replies (r.ops - 1))
-  pub left : AreLeft r.state.mode (machine code globals replies (r.ops - 1)).replies (drop r.used replies)
+  pub state : with_replies (drop r.used replies) r.state ≡ machine code globals replies (r.ops - 1)
+  pub none_left : r.state.replies ≡ []

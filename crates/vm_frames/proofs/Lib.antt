@@ -5,6 +5,7 @@ mod Filling
 mod Closing
 mod Indexed
 mod Opening
+mod Listing
 mod Capturing
 mod Elements
 mod Texts

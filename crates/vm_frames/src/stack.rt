@@ -37,6 +37,23 @@ impl Stack {
         }
     }
 
+    /// A stack of these values, the lowest first. 2^32 and more are answered as want of memory.
+    pub fn from_values(values: Vec<Value>) -> Result<Stack, AllocError>
+        ensures { IfOk result (λ s. s ≡ reverse values.items) }
+    {
+        if values.len() > u32::MAX as usize {
+            return Err(AllocError);
+        }
+        Ok(Stack { values })
+    }
+
+    /// The values, the lowest first. Takes no memory.
+    pub fn values(&self) -> &[Value]
+        ensures { self.now ≡ reverse result.now }
+    {
+        self.values.as_slice()
+    }
+
     /// How many values there are. Takes no memory.
     pub fn len(&self) -> u32
         ensures { result ≡ length self.now }

@@ -6,6 +6,7 @@ ghost use Rattle.hog_ops.specs.Plain.{Str};
 ghost use Rattle.hog_ops.specs.Table.{row, size};
 ghost use Rattle.hog_ops.specs.View.{op_of};
 ghost use Rattle.vm_course.specs.Fits.{OpFits};
+ghost use Rattle.vm_course.specs.Belongs.{is_place};
 ghost use Rattle.vm_course.specs.State.{Begins, params_at};
 ghost use Rattle.vm_frames.specs.Places.{slot_of};
 ghost use Rattle.vm_frames.specs.Reading.{reading_of, BeginsNone, LeadsNear};
@@ -110,6 +111,18 @@ impl<'c> Table<'c> {
         }
     }
 
+    /// Whether a frame may stand at a place: where an operation begins, where a body ends, or behind the last operation.
+    /// Takes no memory.
+    pub fn is_place(&self, place: u32) -> bool
+        ensures { result ≡ is_place self.now.slots place }
+    {
+        match self.slots.get(place as usize) {
+            Some(Slot::Operand) => false,
+            Some(_) => true,
+            None => place as usize == self.slots.len(),
+        }
+    }
+
     /// Copies of the texts, which are a run's first cells.
     pub fn literals(&self, alloc: Global) -> Result<Vec<HogText>, AllocError>
         ensures { IfOk result (λ ts. ts.items ≡ self.now.literals) }
@@ -121,3 +134,6 @@ impl<'c> Table<'c> {
         Ok(texts)
     }
 }
+
+#[cfg(test)]
+mod tests;

@@ -1,66 +1,114 @@
-//! A code that is built by hand, as its table reads it.
+//! Each call that takes memory once, with enough of it.
 
-use crate::Table;
-use hog_ops::{CallableOp, Captures, Code, Op};
-use hog_value::HogText;
+use crate::{Frame, Frames, Stack, ThrowFrame, Throws, Upvalue, Upvalues};
+use hog_ops::Capture;
+use hog_value::Value;
 use std::alloc::{AllocError, Global};
 use std::test::Fail;
 
-fn text(alloc: Global, s: &str) -> Result<HogText, AllocError> {
-    Ok(HogText::from_string(String::from_str(alloc, s)?))
-}
-
-/// A function of two parameters with the texts `b` and `a` in its body, and then the text `b`.
-fn code(alloc: Global) -> Result<Code, AllocError> {
-    let first = Op::Str(text(alloc, "b")?);
-    let second = Op::Str(text(alloc, "a")?);
-    let body = Code::new(vec![in alloc; first, second, Op::Return]?);
-    let function = Op::Callable(CallableOp {
-        name: text(alloc, "f")?,
-        params: 2,
-        body,
-        captures: Captures::new(Vec::new(alloc)),
-    });
-    let third = Op::Str(text(alloc, "b")?);
-    Ok(Code::new(vec![in alloc; function, third, Op::Return]?))
-}
-
-/// The number of the operation that begins at a place, the place behind it, and its literal.
-fn row(table: &Table, place: u32) -> Option<(u8, u32, u32)> {
-    let begin = table.at(place)?;
-    Some((begin.op.number(), begin.behind, begin.literal))
+/// A stack of whole numbers, the last on top.
+fn stack_of(alloc: Global, numbers: &[i64]) -> Result<Stack, AllocError> {
+    let mut stack = Stack::new(alloc);
+    for n in numbers {
+        stack.push(Value::Int(*n))?;
+    }
+    Ok(stack)
 }
 
 #[test]
-fn places(rt: HostRuntime) -> Result<(), Fail> {
-    let code = code(rt.alloc())?;
-    let table = Table::new(rt.alloc(), &code)?;
-    let rows = [
-        (0, None),
-        (1, None),
-        (2, Some((52, 14, 0))),
-        (3, None),
-        (6, None),
-        (7, Some((32, 9, 1))),
-        (8, None),
-        (9, Some((32, 11, 0))),
-        (11, Some((38, 12, 0))),
-        (12, None),
-        (13, None),
-        (14, Some((32, 16, 1))),
-        (16, Some((38, 17, 0))),
-        (17, None),
+fn missing_arguments(rt: HostRuntime) -> Result<(), Fail> {
+    let alloc = rt.alloc();
+    let (one, two, three) = (
+        Some(Value::Int(1)),
+        Some(Value::Int(2)),
+        Some(Value::Int(3)),
+    );
+    let null = Some(Value::Null);
+    for (floor, n, values) in [
+        (1, 2, [one, two, three, None, None]),
+        (2, 3, [one, two, null, null, three]),
+        (3, 1, [one, two, three, null, None]),
+        (9, 2, [one, two, three, null, null]),
+    ] {
+        let mut stack = stack_of(alloc, &[1, 2, 3])?;
+        stack.fill(alloc, floor, n)?;
+        for (place, v) in values.iter().enumerate() {
+            assert_eq!(rt; stack.at(place), *v, "{n} above {floor}, at {place}");
+        }
+    }
+    Ok(())
+}
+
+#[test]
+fn operands(rt: HostRuntime) -> Result<(), Fail> {
+    let alloc = rt.alloc();
+    let stack = stack_of(alloc, &[1, 2, 3])?;
+    let (values, rest) = stack.popped(alloc, 1, 3)?;
+    assert_eq!(rt; values[0], Value::Int(3));
+    assert_eq!(rt; values[1], Value::Int(2));
+    assert_eq!(rt; values[2], Value::Null);
+    assert_eq!(rt; rest, 1);
+    Ok(())
+}
+
+#[test]
+fn captured_variables(rt: HostRuntime) -> Result<(), Fail> {
+    let alloc = rt.alloc();
+    let list = vec![in alloc; Upvalue::Closed(Value::Int(7)), Upvalue::Opened(1)]?;
+    let mut upvalues = Upvalues::from_list(alloc, list)?;
+    let captures = [
+        Capture {
+            local: true,
+            index: 0,
+        },
+        Capture {
+            local: true,
+            index: 1,
+        },
+        Capture {
+            local: false,
+            index: 0,
+        },
+        Capture {
+            local: false,
+            index: 1,
+        },
+        Capture {
+            local: true,
+            index: 2,
+        },
     ];
-    for (place, expected) in rows {
-        assert_eq!(rt; row(&table, place), expected);
-        assert_eq!(rt;
-            table.params(place),
-            if place == 7 { Some(2) } else { None }
+    let numbers = upvalues.capture_all(alloc, 3, 1, &[0], &captures)?;
+    for (i, n) in [1, 2, 0, 3, 4].iter().enumerate() {
+        assert_eq!(rt; numbers[i], *n, "at {i}");
+    }
+    upvalues.close(1, &stack_of(alloc, &[1, 2, 3])?);
+    for (n, v) in [7, 2, 3].iter().enumerate() {
+        assert!(rt;
+            matches!(upvalues.get(n as u32), Some(Upvalue::Closed(Value::Int(i))) if i == *v),
+            "at {n}"
         );
     }
-    let texts = table.literals(rt.alloc())?;
-    assert_eq!(rt; texts.len(), 2);
-    assert_eq!(rt; texts[0].bytes(), b"a".as_slice());
-    assert_eq!(rt; texts[1].bytes(), b"b".as_slice());
+    Ok(())
+}
+
+#[test]
+fn frames(rt: HostRuntime) -> Result<(), Fail> {
+    let alloc = rt.alloc();
+    let mut frames = Frames::new(alloc);
+    frames.push(Frame {
+        place: 2,
+        base: 0,
+        function: None,
+    })?;
+    assert_eq!(rt; frames.len(), 1);
+    let mut throws = Throws::new(alloc);
+    throws.push(ThrowFrame {
+        frames: 1,
+        height: 4,
+        catch: 9,
+    })?;
+    assert_eq!(rt; throws.height(1), 4);
+    assert_eq!(rt; throws.height(2), 0);
     Ok(())
 }

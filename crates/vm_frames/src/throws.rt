@@ -1,6 +1,6 @@
 //! Where throws land.
 
-ghost use Rattle.std.specs.Prelude.{◌≡◌, [], ◌∷◌, OnOk, OnErr};
+ghost use Rattle.std.specs.Prelude.{◌≡◌, [], ◌∷◌, reverse, OnOk, OnErr};
 ghost use Rattle.vm_course.specs.Stack.{height_of};
 ghost use Rattle.vm_frames.specs.Parts.{first_of, others_of};
 ghost use Rattle.vm_course.specs.Step.{throws_around, without_try};
@@ -52,6 +52,20 @@ impl Throws {
         Throws {
             list: Vec::new(alloc),
         }
+    }
+
+    /// These throw frames, as they came. Takes no memory.
+    pub fn from_list(list: Vec<ThrowFrame>) -> Throws
+        ensures { result ≡ reverse list.items }
+    {
+        Throws { list }
+    }
+
+    /// The throw frames, as they came. Takes no memory.
+    pub fn list(&self) -> &[ThrowFrame]
+        ensures { self.now ≡ reverse result.now }
+    {
+        self.list.as_slice()
     }
 
     /// The height below which a frame with this number has no operands by its last throw frame. Takes no memory.
