@@ -80,7 +80,7 @@ fn captured_variables(rt: HostRuntime) -> Result<(), Fail> {
     ];
     let numbers = upvalues.capture_all(alloc, 3, 1, &[0], &captures)?;
     for (i, n) in [1, 2, 0, 3, 4].iter().enumerate() {
-        assert_eq!(rt; numbers[i], *n, "at {i}");
+        assert_eq!(rt; numbers.get(i).copied(), Some(*n), "at {i}");
     }
     upvalues.close(1, &stack_of(alloc, &[1, 2, 3])?);
     for (n, v) in [7, 2, 3].iter().enumerate() {
