@@ -7,8 +7,6 @@
 
 pub mod frames;
 pub mod stack;
-#[cfg(test)]
-mod tests;
 pub mod throws;
 pub mod upvalues;
 
