@@ -10,8 +10,6 @@ mod literals;
 mod slots;
 pub mod stack;
 pub mod table;
-#[cfg(test)]
-mod tests;
 pub mod throws;
 pub mod upvalues;
 

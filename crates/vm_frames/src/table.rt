@@ -60,6 +60,7 @@ impl<'c> Table<'c> {
         if code.elements() >= u32::MAX - 1 {
             return Err(AllocError);
         }
+        // Each operation of a code leads to a place of it.
         laws::codes_fit();
         laws::codes_count();
         let _ops = code.ops();
@@ -73,7 +74,7 @@ impl<'c> Table<'c> {
         })
     }
 
-    /// What stands at a place.
+    /// What stands at a place. Takes no memory.
     fn slot(&self, place: u32) -> Option<Slot<'c>>
         ensures { option_map slot_of result ≡ slice_get self.now.slots place }
     {
