@@ -37,7 +37,7 @@ impl Model for Machine {
     ghost Value = { MachineView };
 
     ghost use Rattle.std.specs.Bool.{OnFalse};
-ghost use Rattle.std.specs.List.{last_or};
+    ghost use Rattle.std.specs.List.{last_or};
     ghost use Rattle.vm_operations.specs.Machine.{IsStanding};
 
     ghost view = { λ m. record { run = record { ops = m.ops; used = m.used; globals = m.globals; state = m.state }; spent = m.spent } };

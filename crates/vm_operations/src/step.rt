@@ -107,11 +107,8 @@ impl State {
             | Op::GetProperty
             | Op::SetProperty
             | Op::GetPropertyNullish => self.use_cell(alloc, behind, op),
-            Op::CallGlobal(_, _)
-            | Op::CallLocal(_)
-            | Op::Callable(_)
-            | Op::Return
-            | Op::Throw => self.call(alloc, behind, op, table),
+            Op::CallGlobal(_, _) | Op::CallLocal(_) | Op::Callable(_) | Op::Return | Op::Throw =>
+                self.call(alloc, behind, op, table),
             _ => self.operate(alloc, behind, op),
         }
     }
@@ -176,13 +173,7 @@ impl State {
     }
 
     /// An operation that makes, calls or leaves a function, calls a native, or throws.
-    fn call(
-        &mut self,
-        alloc: Global,
-        behind: u32,
-        op: &Op,
-        table: &Table,
-    ) -> Result<(), AllocError>
+    fn call(&mut self, alloc: Global, behind: u32, op: &Op, table: &Table) -> Result<(), AllocError>
         requires call { is_call (op_of op.now) ≡ true }
         requires next { IsNext table.now (op_of op.now) behind self.old }
         ensures { (fixed : Fixed) → OnOk result (self.new ≡ act fixed table.now.slots (op_of op.now) (here_of behind self.old) self.old) }
