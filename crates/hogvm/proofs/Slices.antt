@@ -10,7 +10,7 @@ use Rattle.vm_course.specs.Course.{literals_of_code}
 use Rattle.vm_course.specs.Belongs.{belongs, places_belong, literals_belong}
 use Rattle.vm_course.specs.Laws.{SlicesCompose, KeepsBelonging}
 use Rattle.vm_operations.specs.Machine.{MachineView, HasEnded}
-use Rattle.hogvm.specs.declared.steps.Pause.TheVariants.{Sliced}
+use Rattle.hogvm.specs.declared.steps.Pause.TheVariants.{Sliced, Asks}
 use Rattle.hogvm.specs.Calls.{pause_of}
 
 -- a machine that goes on does one
@@ -46,6 +46,22 @@ most code (suc n) r = by_mode r.state.mode (most code n (one_more code r))
     by_mode Waiting more = omega arith
     by_mode (Ended e) more = omega arith
 
+-- none of which takes a reply in
+pub used_still : (code : Ops) (n : ℕ) (r : RunState) → (run_for code n r).used ≡ r.used
+used_still code zero r = refl
+used_still code (suc n) r = by_mode r.state.mode (used_still code n (one_more code r))
+  where
+    by_mode : (m : Mode) → (run_for code n (one_more code r)).used ≡ r.used → (where_running m (run_for code n (one_more code r)) r).used ≡ r.used
+    by_mode Running is = is
+    by_mode Waiting is = refl
+    by_mode (Ended e) is = refl
+
+-- a reply that is taken in is one more at most
+pub used_most : (m : Mode) (n : ℕ) → where_running m (n + 1) n ≤ n + 1
+used_most Running n = omega arith
+used_most Waiting n = omega arith
+used_most (Ended e) n = omega arith
+
 -- all of them where the machine goes on
 pub all_done : (code : Ops) (n : ℕ) (r : RunState) → (run_for code n r).state.mode ≡ Running → (run_for code n r).ops ≡ r.ops + n
 all_done code zero r runs = omega arith
@@ -72,6 +88,11 @@ pub running_if : (m : Mode) → pause_of m ≡ Sliced → m ≡ Running
 running_if Running e = refl
 running_if Waiting e = absurd cc
 running_if (Ended x) e = absurd cc
+
+pub waiting_if : (m : Mode) → pause_of m ≡ Asks → m ≡ Waiting
+waiting_if Running e = absurd cc
+waiting_if Waiting e = refl
+waiting_if (Ended x) e = absurd cc
 
 -- after so many operations, one more
 pub one_on : SlicesCompose → (code : Ops) (i : ℕ) (r0 r : RunState) → r ≡ run_for code i r0 → r.state.mode ≡ Running → one_more code r ≡ run_for code (i + 1) r0

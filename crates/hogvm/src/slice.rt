@@ -26,7 +26,12 @@ pub(crate) fn pause(machine: &Machine) -> Pause
 }
 
 /// At most `slice` operations; fewer where the machine waits or ends. The code is read once, and only where it goes on.
-pub(crate) fn go(machine: &mut Machine, alloc: Global, code: &Code, slice: u32) -> Result<(), AllocError>
+pub(crate) fn go(
+    machine: &mut Machine,
+    alloc: Global,
+    code: &Code,
+    slice: u32,
+) -> Result<(), AllocError>
     requires fresh { machine.old.spent ≡ false }
     requires belongs { belongs code.now machine.old.run ≡ true }
     requires counted { machine.old.run.ops + slice < 2 ^ 64 }

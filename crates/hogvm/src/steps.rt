@@ -1,5 +1,7 @@
 //! What is done with a machine.
 
+ghost use Rattle.std.specs.Prelude.{◌≡◌, false, IsTrue, OnOk, OnErr};
+
 use crate::slice::{go, pause};
 use crate::start::{begin, check_globals};
 use cyclotron_jobs::Reply;
@@ -71,10 +73,12 @@ pub trait Steps: Sized {
         requires counted { OnFalse (held self.old).spent ((held self.old).run.ops + slice < 2 ^ 64) }
         ensures ran { OnOk result ((held self.new).run ≡ run_for code.now slice (held self.old).run) }
         ensures pause { IfOk result (λ p. p ≡ pause_of (held self.new).run.state.mode) }
+        ensures asks { result ≡ Ok Pause.Asks → (held self.new).run.state.mode ≡ Waiting }
         ensures all_done { result ≡ Ok Pause.Sliced → (held self.new).run.ops ≡ (held self.old).run.ops + slice }
         ensures at_most { OnOk result ((held self.new).run.ops ≤ (held self.old).run.ops + slice) }
         ensures goes_on { (held self.old).run.state.mode ≡ Running
             → OnOk result ((held self.old).run.ops < (held self.new).run.ops) }
+        ensures replies { OnOk result ((held self.new).run.used ≡ (held self.old).run.used) }
         ensures waits { (held self.old).run.state.mode ≡ Waiting → OnOk result (held self.new ≡ held self.old) }
         ensures rests { HasEnded (held self.old).run.state.mode → OnOk result (held self.new ≡ held self.old) }
         ensures belongs { OnOk result (belongs code.now (held self.new).run ≡ true) }
@@ -91,12 +95,25 @@ pub trait Steps: Sized {
         requires used { OnFalse (held self.old).spent ((held self.old).run.used + 1 < 2 ^ 64) }
         ensures resumed { OnOk result ((held self.new).run
             ≡ resumed (record { status = reply.now.status; body = reply.now.body }) (held self.old).run) }
+        ensures one { OnOk result ((held self.new).run.ops ≡ (held self.old).run.ops + 1) }
+        ensures replies { OnOk result ((held self.new).run.used ≤ (held self.old).run.used + 1) }
         ensures belongs { (code : Ops) → belongs code (held self.old).run ≡ true
             → OnOk result (belongs code (held self.new).run ≡ true) }
         ensures fresh { OnOk result ((held self.new).spent ≡ false) }
         ensures spends { OnErr result (IsTrue (held self.new).spent) }
         ensures spent { IsTrue (held self.old).spent → result ≡ Err alloc_error }
         ensures unchanged { IsTrue (held self.old).spent → held self.new ≡ held self.old };
+}
+
+/// Answers want of memory for a machine that is spent. Takes no memory.
+fn refuse_spent(machine: &Machine) -> Result<(), AllocError>
+    ensures fresh { OnOk result (machine.now.spent ≡ false) }
+    ensures spent { OnErr result (IsTrue machine.now.spent) }
+{
+    if machine.is_spent() {
+        return Err(AllocError);
+    }
+    Ok(())
 }
 
 impl Steps for Machine {
@@ -110,9 +127,7 @@ impl Steps for Machine {
     }
 
     fn run(&mut self, alloc: Global, code: &Code, slice: u32) -> Result<Pause, AllocError> {
-        if self.is_spent() {
-            return Err(AllocError);
-        }
+        refuse_spent(self)?;
         match go(self, alloc, code, slice) {
             Ok(()) => Ok(pause(self)),
             Err(want) => {
@@ -123,9 +138,7 @@ impl Steps for Machine {
     }
 
     fn resume(&mut self, alloc: Global, reply: &Reply) -> Result<(), AllocError> {
-        if self.is_spent() {
-            return Err(AllocError);
-        }
+        refuse_spent(self)?;
         replies_belong();
         self.take_reply(alloc, reply.status, &reply.body)
     }

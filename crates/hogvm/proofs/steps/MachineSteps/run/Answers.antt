@@ -1,7 +1,7 @@
 use Rattle.std.proofs.Common.{◌≡◌, ◌+◌, ◌≤◌, arith, ap, sym, ◌∙◌}
 use Rattle.vm_course.specs.Run.{RunState}
-use Rattle.hogvm.specs.declared.steps.Pause.TheVariants.{Sliced}
-use Rattle.hogvm.proofs.Slices.{most, all_done, some_done, running_if}
+use Rattle.hogvm.specs.declared.steps.Pause.TheVariants.{Sliced, Asks}
+use Rattle.hogvm.proofs.Slices.{most, all_done, some_done, used_still, running_if, waiting_if}
 use Rattle.hogvm.proofs.steps.MachineSteps.run.Goals as goal
 
 pub returns-in-Ok-clause-at_most : goal.returns-in-Ok-clause-at_most
@@ -21,3 +21,11 @@ returns-in-Ok-clause-all_done c = λ e.
     let sliced : c.pause.result ≡ Sliced = cc in
     let runs = running_if _ (sym c.pause.ensures ∙ sliced) in
     ap (λ (r : RunState). r.ops) c.in-Ok.ensures.ran ∙ all_done c.args.code.now c.args.slice c.args.self.now.run (sym (ap (λ (r : RunState). r.state.mode) c.in-Ok.ensures.ran) ∙ runs)
+
+pub returns-in-Ok-clause-asks : goal.returns-in-Ok-clause-asks
+returns-in-Ok-clause-asks c = λ e.
+    let asks : c.pause.result ≡ Asks = cc in
+    waiting_if _ (sym c.pause.ensures ∙ asks)
+
+pub returns-in-Ok-clause-replies : goal.returns-in-Ok-clause-replies
+returns-in-Ok-clause-replies c = ap (λ (r : RunState). r.used) c.in-Ok.ensures.ran ∙ used_still c.args.code.now c.args.slice c.args.self.now.run
