@@ -11,8 +11,6 @@ mod prelude;
 pub mod program;
 pub mod source;
 pub mod stop;
-#[cfg(test)]
-mod tests;
 
 pub use evaluation::evaluate;
 pub use program::Program;
