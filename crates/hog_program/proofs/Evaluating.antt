@@ -104,12 +104,12 @@ module _ (code : Ops) (globals : List ℕ) (r : RunState) (on : IsRunOf code glo
   is_short whole short named is_code valid running few =
       let k = r.ops - 1 in
       let bound : suc k ≤ 1 + (behind.turns + 1) * (operations code + 1) =
-          subst (λ c. IsDefined c globals [] (suc k) → suc k ≤ 1 + ((machine c globals [] k).turns + 1) * (operations c + 1)) (sym is_code) (short whole named globals [] k)
-          (is_defined code globals [] k (mode_is ∙ running)) in
+      subst (λ c. IsDefined c globals [] (suc k) → suc k ≤ 1 + ((machine c globals [] k).turns + 1) * (operations c + 1)) (sym is_code) (short whole named globals [] k)
+      (is_defined code globals [] k (mode_is ∙ running)) in
       let turns : behind.turns ≤ 100000 = subst (λ n. n ≤ 100000) (ap (λ (s : State). s.turns) same) few in
       let many : operations code < 2 ^ 32 = omega (arith, ops_few code, valid.short) in
       let product : (behind.turns + 1) * (operations code + 1) ≤ 100001 * 4294967296 =
-          mul-le (behind.turns + 1) (operations code + 1) 100001 4294967296 (omega arith) (omega arith) in
+      mul-le (behind.turns + 1) (operations code + 1) 100001 4294967296 (omega arith) (omega arith) in
       omega (arith, on.begun, bound, product)
 
   shows_by : (whole : Stms) → IsOnMeaning whole globals [] → code ≡ code_of whole → (m : Mode) → r.state.mode ≡ m → (m ≡ Running → ⊥)

@@ -87,12 +87,7 @@ impl Program {
     /// At most `slice` operations of the program, at least 1; fewer where the machine waits or ends, and none where it does
     /// so already. The machine belongs to the program's code, and at most 2^64 - 1 operations are counted. After want of
     /// memory the machine is spent.
-    pub fn go(
-        &self,
-        alloc: Global,
-        machine: &mut Machine,
-        slice: u32,
-    ) -> Result<Pause, AllocError>
+    pub fn go(&self, alloc: Global, machine: &mut Machine, slice: u32) -> Result<Pause, AllocError>
         requires some { 1 ≤ slice }
         requires belongs { OnFalse machine.old.spent (belongs self.now.code machine.old.run ≡ true) }
         requires counted { OnFalse machine.old.spent (machine.old.run.ops + slice < 2 ^ 64) }

@@ -52,6 +52,16 @@ pub fn read_whole(alloc: Global, source: &[u8]) -> Result<Tree, BuildStop>
         → IsUnbuilt source.now stop }
 {
     built_is_named();
+    whole_of(alloc, source)
+}
+
+/// The whole program of a source; the laws of names aside.
+fn whole_of(alloc: Global, source: &[u8]) -> Result<Tree, BuildStop>
+    ensures whole { IfOk result (λ tree. IsBuilt source.now (tree_of tree)) }
+    ensures low { IfOk result (λ tree. stms_nesting (tree_of tree) ≤ deepest) }
+    ensures unbuilt { (stop : Stop) → result ≡ Err stop → stop ≢ BuildStop.OutOfMemory
+        → IsUnbuilt source.now stop }
+{
     if source.len() > MOST_BYTES {
         return Err(BuildStop::TooLong);
     }
