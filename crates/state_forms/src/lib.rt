@@ -5,6 +5,11 @@
 //! Above, vm_state reads and writes whole states by these forms.
 #![tactic(auto)]
 
+pub mod forms;
+pub mod shown;
 pub mod stop;
+mod tests;
+pub mod values;
 
+pub use forms::Json;
 pub use stop::ReadStop;

@@ -1,0 +1,118 @@
+use crate::forms::{Json, read_list};
+use crate::stop::ReadStop;
+use crate::values::{read_cell, write_cell};
+use hog_value::{End, TraceItem, Value};
+use std::alloc::Global;
+use std::test::Fail;
+
+/// The form of what the text is the form of.
+fn again<T: Json>(alloc: Global, text: &str) -> Result<String, ReadStop> {
+    match serde_json::Value::from_str(alloc, text) {
+        Ok(v) => {
+            let x = T::read(alloc, &v)?;
+            let form = x.write(alloc)?;
+            Ok(form.to_string(alloc)?)
+        }
+        Err(_) => Err(ReadStop::Refused),
+    }
+}
+
+/// The same of a cell.
+fn cell_again(alloc: Global, text: &str) -> Result<String, ReadStop> {
+    match serde_json::Value::from_str(alloc, text) {
+        Ok(v) => {
+            let cell = read_cell(alloc, &v)?;
+            let form = write_cell(alloc, &cell)?;
+            Ok(form.to_string(alloc)?)
+        }
+        Err(_) => Err(ReadStop::Refused),
+    }
+}
+
+#[test]
+fn values_come_back(rt: HostRuntime) -> Result<(), Fail> {
+    let texts = [
+        "null",
+        "true",
+        "false",
+        "-9223372036854775808",
+        "9223372036854775807",
+        "[4294967295]",
+    ];
+    for text in texts {
+        assert_eq!(rt; again::<Value>(rt.alloc(), text)?.as_str(), text);
+    }
+    let refused = [
+        "1.0",
+        "-0",
+        "9223372036854775808",
+        "[]",
+        "[1,2]",
+        "[4294967296]",
+        "[-1]",
+        "\"a\"",
+        "{}",
+    ];
+    for text in refused {
+        assert!(rt; again::<Value>(rt.alloc(), text).is_err());
+    }
+    Ok(())
+}
+
+#[test]
+fn cells_come_back(rt: HostRuntime) -> Result<(), Fail> {
+    let texts = [
+        "[\"t\",\"a\\n\\\"é\"]",
+        "[\"a\",[null,[0],7]]",
+        "[\"d\",[[\"b\",1],[\"a\",[2]]]]",
+        "[\"f\",7,[0,3]]",
+    ];
+    for text in texts {
+        assert_eq!(rt; cell_again(rt.alloc(), text)?.as_str(), text);
+    }
+    let refused = [
+        "[\"d\",[[\"a\",1],[\"a\",2]]]",
+        "[\"x\",1]",
+        "[\"t\",\"a\",1]",
+        "[\"f\",7]",
+        "[\"a\",null]",
+        "[]",
+        "null",
+    ];
+    for text in refused {
+        assert!(rt; cell_again(rt.alloc(), text).is_err());
+    }
+    Ok(())
+}
+
+#[test]
+fn what_was_shown_comes_back(rt: HostRuntime) -> Result<(), Fail> {
+    for text in ["[\"p\",\"a\"]", "[\"r\",\"https://a\",\"null\"]"] {
+        assert_eq!(rt; again::<TraceItem>(rt.alloc(), text)?.as_str(), text);
+    }
+    for text in ["[\"p\"]", "[\"r\",\"https://a\"]", "[\"q\",\"a\"]", "\"p\""] {
+        assert!(rt; again::<TraceItem>(rt.alloc(), text).is_err());
+    }
+    let ends = [
+        "[\"done\",\"1\"]",
+        "[\"threw\",\"1\"]",
+        "\"turns\"",
+        "\"memory\"",
+        "\"deep\"",
+        "\"fetches\"",
+    ];
+    for text in ends {
+        assert_eq!(rt; again::<End>(rt.alloc(), text)?.as_str(), text);
+    }
+    for text in ["\"done\"", "[\"turns\",\"1\"]", "\"wait\"", "null"] {
+        assert!(rt; again::<End>(rt.alloc(), text).is_err());
+    }
+    Ok(())
+}
+
+#[test]
+fn lists_of_numbers(rt: HostRuntime) -> Result<(), Fail> {
+    let v = serde_json::Value::from_str(rt.alloc(), "[3,4294967295]")?;
+    assert_eq!(rt; read_list::<u32>(rt.alloc(), &v)?.as_slice(), &[3, 4_294_967_295]);
+    Ok(())
+}
