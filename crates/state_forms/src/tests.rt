@@ -113,6 +113,9 @@ fn what_was_shown_comes_back(rt: HostRuntime) -> Result<(), Fail> {
 #[test]
 fn lists_of_numbers(rt: HostRuntime) -> Result<(), Fail> {
     let v = serde_json::Value::from_str(rt.alloc(), "[3,4294967295]")?;
-    assert_eq!(rt; read_list::<u32>(rt.alloc(), &v)?.as_slice(), &[3, 4_294_967_295]);
+    assert_eq!(rt;
+        read_list::<u32>(rt.alloc(), &v)?.as_slice(),
+        [3, 4_294_967_295].as_slice()
+    );
     Ok(())
 }
