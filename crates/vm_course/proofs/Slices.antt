@@ -12,19 +12,20 @@ rests code (suc n) r Waiting e h = ap (λ x. where_running x (run_for code n (on
 rests code (suc n) r (Ended end) e h = ap (λ x. where_running x (run_for code n (one_more code r)) r) e
 
 pub slices : (code : Ops) (a b : ℕ) (r : RunState) → run_for code (a + b) r ≡ run_for code b (run_for code a r)
-slices code zero b r = refl
-slices code (suc a) b r = by_mode r.state.mode refl
+slices code zero b r = let none : zero + b ≡ b = omega arith in ap (λ n. run_for code n r) none
+slices code (suc a) b r = let more : suc a + b ≡ suc (a + b) = omega arith in ap (λ n. run_for code n r) more ∙ by_mode (slices code a b (one_more code r)) r.state.mode refl
   where
-    by_mode : (m : Mode) → r.state.mode ≡ m → run_for code (suc a + b) r ≡ run_for code b (run_for code (suc a) r)
-    by_mode Running e =
+    by_mode : run_for code (a + b) (one_more code r) ≡ run_for code b (run_for code a (one_more code r)) → (m : Mode) → r.state.mode ≡ m
+        → run_for code (suc (a + b)) r ≡ run_for code b (run_for code (suc a) r)
+    by_mode next Running e =
         ap (λ x. where_running x (run_for code (a + b) (one_more code r)) r) e
-        ∙ slices code a b (one_more code r)
+        ∙ next
         ∙ sym (ap (λ x. run_for code b (where_running x (run_for code a (one_more code r)) r)) e)
-    by_mode Waiting e =
+    by_mode next Waiting e =
         ap (λ x. where_running x (run_for code (a + b) (one_more code r)) r) e
         ∙ sym (rests code b r Waiting e refl)
         ∙ sym (ap (λ x. run_for code b (where_running x (run_for code a (one_more code r)) r)) e)
-    by_mode (Ended end) e =
+    by_mode next (Ended end) e =
         ap (λ x. where_running x (run_for code (a + b) (one_more code r)) r) e
         ∙ sym (rests code b r (Ended end) e refl)
         ∙ sym (ap (λ x. run_for code b (where_running x (run_for code a (one_more code r)) r)) e)

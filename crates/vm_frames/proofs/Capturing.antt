@@ -1,5 +1,5 @@
 -- Variables that a new function captures, one after the other.
-use Rattle.std.proofs.Common.{◌≡◌, ◌<◌, ◌≤◌, ◌+◌, ℕ, zero, suc, List, [], ◌∷◌, ◌++◌, Bool, true, false, cond, length, drop, get_or, arith, refl, ap, sym, ◌∙◌, append_assoc, append-nil, drop-cons, length-drop}
+use Rattle.std.proofs.Common.{◌≡◌, ◌<◌, ◌≤◌, ◌+◌, ℕ, suc, List, [], ◌∷◌, ◌++◌, length, drop, get_or, arith, ap, sym, ◌∙◌, append_assoc, append-nil, drop-cons, length-drop}
 use Rattle.hog_ops.specs.declared.capture.Capture.{Capture}
 use Rattle.vm_course.specs.State.{Upvalue, Frame}
 use Rattle.vm_course.specs.Stack.{capture_one, capture_all}

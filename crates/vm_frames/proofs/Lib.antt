@@ -1,4 +1,7 @@
 pub mod Lists
+mod Named
+mod Taking
+mod Filling
 mod Closing
 mod Indexed
 mod Opening

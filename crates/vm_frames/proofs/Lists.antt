@@ -1,10 +1,9 @@
 -- Stacks with the top first, and the vectors behind them.
-use Rattle.std.proofs.Common.{◌≡◌, ◌<◌, ◌≤◌, ◌+◌, ◌-◌, ◌⊎◌, ◌≢◌, ℕ, zero, suc, List, [], ◌∷◌, ◌++◌, Bool, true, false, cond, length, take, drop, Option, Some, None, get_or, All, arith, refl, ap, ap₂, sym, subst, ◌∙◌, length-append, length-drop, ⊎_elim}
+use Rattle.std.proofs.Common.{◌≡◌, ◌<◌, ◌≤◌, ◌+◌, ◌-◌, ◌⊎◌, ℕ, zero, suc, List, [], ◌∷◌, ◌++◌, Bool, true, false, cond, length, take, drop, Some, None, get_or, All, arith, refl, ap, ap₂, sym, ◌∙◌, length-drop, ⊎_elim}
 use Rattle.std.proofs.lemmas.List.{set_past, reverse-reverse, reverse-append, length-reverse, take-append-drop}
 use Rattle.std.proofs.lemmas.Grind.{reverse_onto}
 use Rattle.std.proofs.lemmas.Option.{none-some, slice_get_read, slice_get_past}
 use Rattle.std.proofs.lemmas.Bool.Decides.{nat_tests}
-use Rattle.std.proofs.Math.Seq.{take-append_seam}
 use Rattle.std.proofs.lemmas.List.Elements.{All-head, All-tail, All-drop}
 use Rattle.std.specs.Prelude.{reverse, slice_get, slice_set, nat_lt, ◌==◌, IfSome}
 use Rattle.hog_value.specs.Values.{Val, NamesBelow}

@@ -2,7 +2,6 @@
 use Rattle.std.specs.Prelude.{◌≡◌, ℕ, ◌<◌, ◌^◌, List, length, Some, slice_get}
 use Rattle.std.specs.Ordering.{nat_cmp}
 use Rattle.std.specs.BTreeMap.{BTreeMap, get}
-use Rattle.hog_value.specs.declared.trace.End.{End}
 use Rattle.vm_frames.specs.declared.upvalues.Upvalue as u
 use Rattle.vm_frames.specs.declared.upvalues.Upvalue.TheVariants as up
 use Rattle.vm_course.specs.State.{Upvalue, Opened, Closed}

@@ -1,8 +1,10 @@
 //! The values of a machine's stack.
 
-ghost use Rattle.std.specs.Prelude.{◌≡◌, ◌<◌, ◌≤◌, ◌^◌, ℕ, [], ◌∷◌, All, length, min, reverse, IfOk, IfSome, OnOk, OnErr};
+ghost use Rattle.std.specs.Prelude.{◌≡◌, ◌<◌, ◌≤◌, ◌-◌, ℕ, [], ◌∷◌, ◌++◌, All, length, replicate, reverse, slice_range, IfOk, IfSome, OnOk, OnErr};
 ghost use Rattle.hog_value.specs.Values.{NamesBelow};
+ghost use Rattle.hog_value.specs.declared.value.Value.TheVariants.{Null};
 ghost use Rattle.vm_course.specs.Stack.{value_at, with_value, keep, top_of, taken};
+ghost use Rattle.vm_course.specs.Step.{with_arguments};
 
 use hog_value::Value;
 use std::alloc::{AllocError, Global};
@@ -86,6 +88,63 @@ impl Stack {
         Ok(())
     }
 
+    /// Adds so many nulls on top.
+    pub fn push_nulls(&mut self, n: u32) -> Result<(), AllocError>
+        ensures is { OnOk result (self.new ≡ replicate n Null ++ self.old) }
+        ensures names { (m : ℕ) → All (NamesBelow m) self.old → All (NamesBelow m) self.new }
+    {
+        for _ in 0..n {
+            self.push(Value::Null)?;
+        }
+        Ok(())
+    }
+
+    /// Adds values on top, the last of them topmost.
+    fn push_all(&mut self, values: &[Value]) -> Result<(), AllocError>
+        ensures is { OnOk result (self.new ≡ reverse values.now ++ self.old) }
+        ensures names { (m : ℕ) → All (NamesBelow m) values.now → All (NamesBelow m) self.old → All (NamesBelow m) self.new }
+    {
+        for v in values {
+            self.push(*v)?;
+        }
+        Ok(())
+    }
+
+    /// So many arguments above a floor, which the values there are: those that are missing are null, and the deepest.
+    /// Takes no memory where none is missing.
+    pub fn fill(&mut self, alloc: Global, floor: u32, n: u32) -> Result<(), AllocError>
+        ensures is { OnOk result (self.new ≡ with_arguments floor n self.old) }
+        ensures names { (m : ℕ) → All (NamesBelow m) self.old → All (NamesBelow m) self.new }
+    {
+        let there = self.len().saturating_sub(floor);
+        if n <= there {
+            return Ok(());
+        }
+        self.put_nulls(alloc, floor, n - there)
+    }
+
+    /// Puts so many nulls under the values above a floor.
+    fn put_nulls(&mut self, alloc: Global, floor: u32, n: u32) -> Result<(), AllocError>
+        ensures is { OnOk result (self.new ≡ slice_range self.old 0 (length self.old - floor) ++ (replicate n Null ++ keep floor self.old)) }
+        ensures names { (m : ℕ) → All (NamesBelow m) self.old → All (NamesBelow m) self.new }
+    {
+        let above = self.above(alloc, floor)?;
+        self.keep(floor);
+        self.push_nulls(n)?;
+        self.push_all(&above)
+    }
+
+    /// A copy of the values above a floor, the topmost last.
+    fn above(&self, alloc: Global, floor: u32) -> Result<Vec<Value>, AllocError>
+        ensures is { IfOk result (λ vs. reverse vs.items ≡ slice_range self.now 0 (length self.now - floor)) }
+        ensures names { (m : ℕ) → All (NamesBelow m) self.now → IfOk result (λ vs. All (NamesBelow m) vs.items) }
+    {
+        match self.values.get(floor as usize..) {
+            Some(above) => Vec::from_slice(alloc, above),
+            None => Ok(Vec::new(alloc)),
+        }
+    }
+
     /// Sets the value at a place, counted from the bottom; where there is none nothing changes. Takes no memory.
     pub fn set(&mut self, place: usize, v: Value)
         ensures { self.new ≡ with_value self.old place v }
@@ -97,12 +156,7 @@ impl Stack {
 
     /// So many operands, the topmost first, and how many values stand under them. Below `floor` there are none: they are
     /// null then.
-    pub fn popped(
-        &self,
-        alloc: Global,
-        floor: u32,
-        n: u64,
-    ) -> Result<(Vec<Value>, u32), AllocError>
+    pub fn popped(&self, alloc: Global, floor: u32, n: u64) -> Result<(Vec<Value>, u32), AllocError>
         ensures is { IfOk result (λ r. taken floor n self.now ≡ (r.0.items, keep r.1 self.now)) }
         ensures count { IfOk result (λ r. length r.0.items ≡ n) }
         ensures within { IfOk result (λ r. r.1 ≤ length self.now) }

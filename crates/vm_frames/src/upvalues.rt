@@ -17,10 +17,12 @@ use std::alloc::{AllocError, Global};
 use std::collections::BTreeMap;
 use std::marker::Model;
 
-/// An upvalue: the place on the stack where its variable stands, or the value that it has taken along.
+/// A variable that functions have captured.
 #[derive(Clone, Copy)]
 pub enum Upvalue {
+    /// The variable stands on the stack, at this place counted from the bottom.
     Opened(u32),
+    /// The variable has left the stack, and this is its value.
     Closed(Value),
 }
 
@@ -29,7 +31,7 @@ pub enum Upvalue {
 #[derive(Drop)]
 pub struct Upvalues {
     list: Vec<Upvalue>,
-    open: BTreeMap<u32, u32>,
+    by_place: BTreeMap<u32, u32>,
 }
 
 impl Model for Upvalues {
@@ -42,23 +44,23 @@ impl Model for Upvalues {
 
     ghost view = { λ u. map upvalue_of u.list.items };
 
-    ghost invariant = { λ u. IsIndexed u.list.items u.open };
+    ghost invariant = { λ u. IsIndexed u.list.items u.by_place };
 }
 
 /// Takes out the last of the numbers by places, where its place is at a height or above it. Takes no memory.
-fn take_last(open: &mut BTreeMap<u32, u32>, height: u32) -> Option<(u32, u32)>
-    ensures none { IfNone result ((p : ℕ) (u : ℕ) → get nat_cmp open.new p ≡ Some u → p < height) }
-    ensures same { IfNone result (IsUnchanged open.old open.new) }
+fn take_last(numbers: &mut BTreeMap<u32, u32>, height: u32) -> Option<(u32, u32)>
+    ensures none { IfNone result ((p : ℕ) (u : ℕ) → get nat_cmp numbers.new p ≡ Some u → p < height) }
+    ensures same { IfNone result (IsUnchanged numbers.old numbers.new) }
     ensures high { IfSome result (λ last. height ≤ last.0) }
-    ensures there { IfSome result (λ last. get nat_cmp open.old last.0 ≡ Some last.1) }
-    ensures removed { IfSome result (λ last. Updates nat_cmp open.old open.new last.0 None) }
-    ensures fewer { IfSome result (λ last. btree_map_len open.new < btree_map_len open.old) }
+    ensures there { IfSome result (λ last. get nat_cmp numbers.old last.0 ≡ Some last.1) }
+    ensures removed { IfSome result (λ last. Updates nat_cmp numbers.old numbers.new last.0 None) }
+    ensures fewer { IfSome result (λ last. btree_map_len numbers.new < btree_map_len numbers.old) }
 {
-    let (place, _) = open.last_key_value()?;
+    let (place, _) = numbers.last_key_value()?;
     if *place < height {
         return None;
     }
-    open.pop_last()
+    numbers.pop_last()
 }
 
 impl Upvalues {
@@ -68,7 +70,7 @@ impl Upvalues {
     {
         Upvalues {
             list: Vec::new(alloc),
-            open: BTreeMap::new(alloc),
+            by_place: BTreeMap::new(alloc),
         }
     }
 
@@ -91,7 +93,7 @@ impl Upvalues {
     pub fn close(&mut self, height: u32, stack: &Stack)
         ensures { self.new ≡ map (close height stack.now) self.old }
     {
-        while let Some((place, number)) = take_last(&mut self.open, height) {
+        while let Some((place, number)) = take_last(&mut self.by_place, height) {
             let v = stack.at(place as usize).unwrap_or(Value::Null);
             self.list[number as usize] = Upvalue::Closed(v);
         }
@@ -107,7 +109,8 @@ impl Upvalues {
 
     /// Adds a closed upvalue of null; its number.
     fn add_null(&mut self) -> Result<u32, AllocError>
-        ensures { IfOk result (λ n. (n, self.new) ≡ or_closed self.old None) }
+        ensures is { IfOk result (λ n. (n, self.new) ≡ or_closed self.old None) }
+        ensures names { (n : ℕ) → All (ClosedBelow n) self.old → All (ClosedBelow n) self.new }
     {
         let number = self.list.len();
         if number >= u32::MAX as usize {
@@ -119,7 +122,8 @@ impl Upvalues {
 
     /// The number of the upvalue that is open at a place, or of a new one.
     fn open_at(&mut self, place: u32) -> Result<u32, AllocError>
-        ensures { IfOk result (λ n. (n, self.new) ≡ or_opened place self.old (find_open self.old place)) }
+        ensures is { IfOk result (λ n. (n, self.new) ≡ or_opened place self.old (find_open self.old place)) }
+        ensures names { (n : ℕ) → All (ClosedBelow n) self.old → All (ClosedBelow n) self.new }
     {
         match self.number_at(place) {
             Some(number) => Ok(number),
@@ -131,20 +135,21 @@ impl Upvalues {
     fn number_at(&self, place: u32) -> Option<u32>
         ensures { result ≡ find_open self.now place }
     {
-        self.open.get(&place).copied()
+        self.by_place.get(&place).copied()
     }
 
     /// Adds an upvalue that is open at a place where none is; its number.
     fn add_open(&mut self, place: u32) -> Result<u32, AllocError>
         requires { find_open self.old place ≡ None }
-        ensures { IfOk result (λ n. (n, self.new) ≡ or_opened place self.old None) }
+        ensures is { IfOk result (λ n. (n, self.new) ≡ or_opened place self.old None) }
+        ensures names { (n : ℕ) → All (ClosedBelow n) self.old → All (ClosedBelow n) self.new }
     {
         let number = self.list.len();
         if number >= u32::MAX as usize {
             return Err(AllocError);
         }
         self.list.reserve(1)?;
-        self.open.insert(place, number as u32)?;
+        self.by_place.insert(place, number as u32)?;
         match self.list.push(Upvalue::Opened(place)) {
             Ok(()) => Ok(number as u32),
             Err(_) => unreachable!(),
@@ -160,7 +165,8 @@ impl Upvalues {
         c: Capture,
     ) -> Result<u32, AllocError>
         requires { height ≤ 2 ^ 32 }
-        ensures { IfOk result (λ n. (f : FrameView) → f.base ≡ base → (n, self.new) ≡ capture_one height f captured.now c self.old) }
+        ensures is { IfOk result (λ n. (f : FrameView) → f.base ≡ base → (n, self.new) ≡ capture_one height f captured.now c self.old) }
+        ensures names { (n : ℕ) → All (ClosedBelow n) self.old → All (ClosedBelow n) self.new }
     {
         if !c.local {
             return self.capture_upvalue(captured, c.index);
@@ -174,7 +180,8 @@ impl Upvalues {
 
     /// The number that a function has captured at an index; where there is none, that of a new closed upvalue of null.
     fn capture_upvalue(&mut self, captured: &[u32], index: u32) -> Result<u32, AllocError>
-        ensures { IfOk result (λ n. (n, self.new) ≡ or_closed self.old (slice_get captured.now index)) }
+        ensures is { IfOk result (λ n. (n, self.new) ≡ or_closed self.old (slice_get captured.now index)) }
+        ensures names { (n : ℕ) → All (ClosedBelow n) self.old → All (ClosedBelow n) self.new }
     {
         match captured.get(index as usize) {
             Some(number) => Ok(*number),
@@ -193,7 +200,8 @@ impl Upvalues {
         captures: &[Capture],
     ) -> Result<Vec<u32>, AllocError>
         requires { height ≤ 2 ^ 32 }
-        ensures { IfOk result (λ ns. (f : FrameView) → f.base ≡ base → capture_all height f captured.now captures.now self.old ≡ (ns.items, self.new)) }
+        ensures is { IfOk result (λ ns. (f : FrameView) → f.base ≡ base → capture_all height f captured.now captures.now self.old ≡ (ns.items, self.new)) }
+        ensures names { (n : ℕ) → All (ClosedBelow n) self.old → All (ClosedBelow n) self.new }
     {
         let mut numbers = Vec::new(alloc);
         for c in captures {

@@ -1,4 +1,4 @@
-use Rattle.std.proofs.Common.{◌≡◌, Some, All, arith, ap, sym, subst, ◌∙◌}
+use Rattle.std.proofs.Common.{◌≡◌, Some, arith, ap, sym, subst, ◌∙◌}
 use Rattle.std.specs.Prelude.{IfSome}
 use Rattle.hog_value.specs.Values.{NamesBelow}
 use Rattle.vm_course.specs.Stack.{value_at}

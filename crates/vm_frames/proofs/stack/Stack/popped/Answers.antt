@@ -1,4 +1,4 @@
-use Rattle.std.proofs.Common.{◌≡◌, ◌-◌, ◌+◌, ◌∷◌, [], List, length, length-append, arith, ap, sym, subst, ◌∙◌, All}
+use Rattle.std.proofs.Common.{◌≡◌, ◌-◌, ◌+◌, ◌∷◌, [], length, length-append, arith, ap, sym, subst, ◌∙◌, All}
 use Rattle.std.proofs.lemmas.List.Elements.{All-push, All-nil}
 use Rattle.hog_value.specs.Values.{NamesBelow}
 use Rattle.vm_frames.proofs.Taking.{behind, behind-first, behind-next, behind-last}

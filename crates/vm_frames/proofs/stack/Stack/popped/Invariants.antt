@@ -1,6 +1,6 @@
-use Rattle.std.proofs.Common.{◌≡◌, ◌≤◌, ◌-◌, ◌++◌, ℕ, length, All}
+use Rattle.std.proofs.Common.{◌≡◌, ◌≤◌, ◌-◌, ℕ, length, All}
 use Rattle.hog_value.specs.Values.{NamesBelow}
-use Rattle.vm_course.specs.Stack.{taken, keep}
+use Rattle.vm_course.specs.Stack.{taken}
 use Rattle.vm_frames.proofs.Taking.{behind}
 use Rattle.vm_frames.proofs.stack.Stack.popped.Given as goal
 

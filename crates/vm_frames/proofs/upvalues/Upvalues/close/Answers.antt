@@ -1,8 +1,6 @@
-use Rattle.std.proofs.Common.{◌≡◌, ◌<◌, length, Some, rules, ap, sym, ◌∙◌}
+use Rattle.std.proofs.Common.{◌≡◌, ◌<◌, length, Some, rules, ap, ◌∙◌}
 use Rattle.std.proofs.lemmas.Option.{slice_get_within}
 use Rattle.std.specs.Prelude.{slice_get, unwrap_or}
-use Rattle.std.specs.Ordering.{nat_cmp}
-use Rattle.std.specs.BTreeMap.{get}
 use Rattle.hog_value.specs.declared.value.Value.TheVariants.{Null}
 use Rattle.vm_frames.specs.declared.upvalues.Upvalue.TheVariants as up
 use Rattle.vm_course.specs.Stack.{value_at, or_null}
@@ -32,5 +30,5 @@ loop-place-preserved c =
 pub returns : goal.returns
 returns c =
     let us = c.loop-place.self-inside.list.items in
-    none_left c.args.height c.args.stack.now us c.loop-place.self-inside.open c.take_last.new.open c.loop-place.invariant.indexed c.in_default.ensures.same c.in_default.ensures.none
+    none_left c.args.height c.args.stack.now us c.loop-place.self-inside.by_place c.take_last.new.numbers c.loop-place.invariant.indexed c.in_default.ensures.same c.in_default.ensures.none
     ∙ c.loop-place.invariant.so_far

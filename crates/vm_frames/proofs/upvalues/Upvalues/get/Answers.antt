@@ -1,4 +1,4 @@
-use Rattle.vm_frames.proofs.Fit.{closed_found}
+use Rattle.vm_frames.proofs.Named.{closed_found}
 use Rattle.vm_frames.proofs.upvalues.Upvalues.get.Goals as goal
 
 pub returns-clause-names : goal.returns-clause-names

@@ -5,4 +5,4 @@ use Rattle.vm_frames.proofs.upvalues.Upvalues.number_at.Goals as goal
 
 pub returns : goal.returns
 returns c =
-    c.copied.ensures ∙ c.get.ensures.value ∙ found_is c.self.inside.list.items c.self.inside.open c.args.place c.self.invariant ∙ ap (λ us. find_open us c.args.place) c.self.view_is
+    c.copied.ensures ∙ c.get.ensures.value ∙ found_is c.self.inside.list.items c.self.inside.by_place c.args.place c.self.invariant ∙ ap (λ us. find_open us c.args.place) c.self.view_is

@@ -1,4 +1,4 @@
-use Rattle.std.proofs.Common.{ap, sym, ◌∙◌}
+use Rattle.std.proofs.Common.{ap, ◌∙◌}
 use Rattle.std.specs.Prelude.{slice_get, slice_set}
 use Rattle.vm_course.specs.State.{Closed}
 use Rattle.vm_frames.proofs.Closing.{listed_closed, set_seen}
@@ -8,7 +8,7 @@ use Rattle.vm_frames.proofs.upvalues.Upvalues.set.Goals as goal
 pub invariant_of-self : goal.invariant_of-self
 invariant_of-self c =
     let old = c.requires.0 in
-    indexed_set c.self.inside.list.items c.self.inside.open c.args.number old c.args.v c.self.invariant
+    indexed_set c.self.inside.list.items c.self.inside.by_place c.args.number old c.args.v c.self.invariant
     (listed_closed c.self.inside.list.items c.args.number old (ap (λ us. slice_get us c.args.number) c.self.view_is ∙ c.requires.1))
 
 pub returns : goal.returns
