@@ -114,16 +114,24 @@ pub fn read_all<T: Json>(alloc: Global, items: &[Value]) -> Result<Vec<T>, ReadS
     Ok(found)
 }
 
-/// The array of the items' forms.
-pub fn write_all<T: Json>(alloc: Global, items: &[T]) -> Result<Value, AllocError>
-    ensures form { IfOk result (λ v. view v ≡ list (map T.written items.now)) }
+/// The forms of the items.
+pub fn write_each<T: Json>(alloc: Global, items: &[T]) -> Result<Vec<Value>, AllocError>
+    ensures form { IfOk result (λ vs. map view vs.items ≡ map T.written items.now) }
     ensures ranged { IfOk result (λ _. AllByRecursion T.fits items.now) }
 {
     let mut written = Vec::new(alloc);
     for item in items {
         written.push(item.write(alloc)?)?;
     }
-    Ok(Value::Array(written))
+    Ok(written)
+}
+
+/// The array of the items' forms.
+pub fn write_all<T: Json>(alloc: Global, items: &[T]) -> Result<Value, AllocError>
+    ensures form { IfOk result (λ v. view v ≡ list (map T.written items.now)) }
+    ensures ranged { IfOk result (λ _. AllByRecursion T.fits items.now) }
+{
+    Ok(list_value(write_each(alloc, items)?))
 }
 
 /// Each item of an array.

@@ -1,9 +1,12 @@
+use crate::calls::{read_mode, write_mode};
 use crate::forms::{Json, read_list};
 use crate::stop::ReadStop;
+use crate::upvalues::{read_upvalues, write_upvalues};
 use crate::values::{read_cell, write_cell};
 use hog_value::{End, TraceItem, Value};
 use std::alloc::Global;
 use std::test::Fail;
+use vm_frames::{Frame, ThrowFrame};
 
 /// The form of what the text is the form of.
 fn again<T: Json>(alloc: Global, text: &str) -> Result<String, ReadStop> {
@@ -23,6 +26,29 @@ fn cell_again(alloc: Global, text: &str) -> Result<String, ReadStop> {
         Ok(v) => {
             let cell = read_cell(alloc, &v)?;
             let form = write_cell(alloc, &cell)?;
+            Ok(form.to_string(alloc)?)
+        }
+        Err(_) => Err(ReadStop::Refused),
+    }
+}
+
+/// The same of upvalues, and of whether a machine goes on.
+fn upvalues_again(alloc: Global, text: &str) -> Result<String, ReadStop> {
+    match serde_json::Value::from_str(alloc, text) {
+        Ok(v) => {
+            let upvalues = read_upvalues(alloc, &v)?;
+            let form = write_upvalues(alloc, upvalues.as_slice())?;
+            Ok(form.to_string(alloc)?)
+        }
+        Err(_) => Err(ReadStop::Refused),
+    }
+}
+
+fn mode_again(alloc: Global, text: &str) -> Result<String, ReadStop> {
+    match serde_json::Value::from_str(alloc, text) {
+        Ok(v) => {
+            let (waiting, end) = read_mode(alloc, &v)?;
+            let form = write_mode(alloc, waiting, &end)?;
             Ok(form.to_string(alloc)?)
         }
         Err(_) => Err(ReadStop::Refused),
@@ -117,5 +143,27 @@ fn lists_of_numbers(rt: HostRuntime) -> Result<(), Fail> {
         read_list::<u32>(rt.alloc(), &v)?.as_slice(),
         [3, 4_294_967_295].as_slice()
     );
+    Ok(())
+}
+
+#[test]
+fn parts_of_a_machine_come_back(rt: HostRuntime) -> Result<(), Fail> {
+    for text in ["[2,0,null]", "[4294967295,3,7]"] {
+        assert_eq!(rt; again::<Frame>(rt.alloc(), text)?.as_str(), text);
+    }
+    for text in ["[2,0]", "[2,0,null,1]", "[-1,0,null]", "[2,0,false]"] {
+        assert!(rt; again::<Frame>(rt.alloc(), text).is_err());
+    }
+    assert_eq!(rt; again::<ThrowFrame>(rt.alloc(), "[1,0,9]")?.as_str(), "[1,0,9]");
+    assert!(rt; again::<ThrowFrame>(rt.alloc(), "[1,0,null]").is_err());
+    let upvalues = "[[0,3],[1,null],[1,[2]]]";
+    assert_eq!(rt; upvalues_again(rt.alloc(), upvalues)?.as_str(), upvalues);
+    for text in ["[[2,0]]", "[[0,null]]", "[[0]]", "null"] {
+        assert!(rt; upvalues_again(rt.alloc(), text).is_err());
+    }
+    for text in ["null", "\"wait\"", "\"deep\""] {
+        assert_eq!(rt; mode_again(rt.alloc(), text)?.as_str(), text);
+    }
+    assert!(rt; mode_again(rt.alloc(), "\"goes\"").is_err());
     Ok(())
 }

@@ -3,7 +3,7 @@ use Rattle.std.proofs.lemmas.List.{take_more}
 use Rattle.std.specs.List.{AllByRecursion}
 use Rattle.serde_json.specs.View.{view}
 use Rattle.state_forms.proofs.Lists.{one_more, all_push}
-use Rattle.state_forms.proofs.forms.write_all.Goals as goal
+use Rattle.state_forms.proofs.forms.write_each.Goals as goal
 
 pub loop-item-preserved : goal.loop-item-preserved
 loop-item-preserved g c =
