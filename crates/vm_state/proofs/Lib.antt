@@ -1,3 +1,5 @@
+pub mod Seen
+pub mod Parted
 pub mod Back
 pub mod Plain
 pub mod Loading

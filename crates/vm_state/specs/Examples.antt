@@ -10,7 +10,7 @@ use Rattle.vm_course.specs.State.{Running}
 use Rattle.state_forms.specs.Shapes.{list_by}
 use Rattle.vm_state.specs.declared.stop.StateStop.TheVariants as stops
 use Rattle.vm_course.specs.Run.{RunState}
-use Rattle.vm_state.specs.Saved.{First}
+use Rattle.vm_state.specs.declared.parts.Format.TheVariants.{First}
 use Rattle.vm_state.specs.Layout.{counts_in, calls_in, held_in, rest_in}
 use Rattle.vm_state.specs.Tests.{is_state, is_written}
 use Rattle.vm_course.specs.Belongs.{belongs}
