@@ -16,7 +16,7 @@ use Rattle.vm_course.specs.Run.{RunState}
 use Rattle.vm_state.specs.declared.parts.Format.{Format}
 use Rattle.vm_state.specs.declared.parts.Format.TheVariants.{First, Second}
 use Rattle.vm_state.specs.Saved.{Written, requests_in}
-use Rattle.vm_state.specs.Layout.{Counts, counts_in, Calls, calls_in, Held, held_in, rest_in, rest_data, written_in, written_in_list, elements_of, saved_data}
+use Rattle.vm_state.specs.Layout.{Counts, counts_in, Calls, calls_in, Held, held_in, lists_in, rest_in, rest_data, written_in, written_in_list, elements_of, saved_data}
 use Rattle.vm_state.specs.Laws.{SavedFits}
 
 pub all_reverse : {A : Type 0} (P : A → Type 0) (xs : List A) → AllByRecursion P xs → AllByRecursion P (reverse xs)
@@ -63,7 +63,7 @@ turned : (m : RunState) → m.state.replies ≡ [] → Some record m { state = r
 turned m none = rw (reverse-reverse m.state.stack, reverse-reverse m.state.frames, reverse-reverse m.state.throws, sym none) refl
 
 rest_back : (m : RunState) → SavedFits m → rest_in (counts_of m) (rest_data m) ≡ Some m
-unfolding rest_in
+unfolding rest_in lists_in
 rest_back m h = rw (maybe_back m.globals h.globals, mode_back m.state.mode, calls_back m h, held_back m h) (turned m h.replies)
 
 abbrev pub written_of : Format → RunState → Written

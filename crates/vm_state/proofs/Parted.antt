@@ -1,10 +1,15 @@
 -- A state stands where what it holds does, and its upvalues do.
-use Rattle.std.proofs.Common.{◌≡◌, [], length, Bool, true, false, ◌&&◌, refl}
+use Rattle.std.proofs.Common.{◌≡◌, [], length, Bool, true, false, ◌&&◌, map, refl}
+use Rattle.std.proofs.lemmas.List.{length-map, length-reverse, reverse-reverse}
+use Rattle.std.proofs.lemmas.List.Folds.{list_all-map}
 use Rattle.std.specs.Prelude.{reverse}
 use Rattle.std.specs.List.{list_all}
+use Rattle.hog_value.specs.Views.{cell_of}
+use Rattle.vm_frames.specs.Views.{upvalue_of}
 use Rattle.vm_course.specs.Run.{RunState}
 use Rattle.vm_state.specs.Tests.{names, cell_stands, upvalues_stand, counts_stand, calls_stand, globals_stand, waits_for, is_state}
-use Rattle.vm_state.specs.Parts.{rest_stands}
+use Rattle.vm_state.specs.declared.parts.Parts.{Parts}
+use Rattle.vm_state.specs.Parts.{state_of, rest_stands, parts_hold, upvalues_hold}
 
 moved : (a b c d e g u : Bool) → (a && b && (c && d && u) && e && g) ≡ ((a && b && (c && d) && e && g) && u)
 moved false b c d e g u = refl
@@ -25,3 +30,13 @@ parted m =
     (list_all (cell_stands (length m.state.heap) (length m.state.upvalues)) m.state.heap)
     (globals_stand m.state.heap m.state.mode m.globals) (waits_for m.state.mode m.state.trace)
     (upvalues_stand (length m.state.heap) (length m.state.stack) [] m.state.upvalues)
+
+-- what was read is a state where its parts hold
+pub is_held : (p : Parts) → is_state (state_of p) ≡ (parts_hold p && upvalues_hold p)
+is_held p =
+    rw (
+      parted (state_of p),
+      reverse-reverse p.calls.stack.items, reverse-reverse p.calls.frames.items, reverse-reverse p.calls.throws.items,
+      length-reverse p.calls.stack.items, length-map p.held.cells.items cell_of, length-map p.held.upvalues.items upvalue_of,
+      list_all-map (cell_stands (length p.held.cells.items) (length p.held.upvalues.items)) cell_of p.held.cells.items,
+    ) refl

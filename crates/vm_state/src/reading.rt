@@ -7,7 +7,7 @@ ghost use Rattle.state_forms.specs.Shapes.{Gives};
 ghost use Rattle.hog_value.specs.Views.{cell_of};
 ghost use Rattle.state_forms.specs.Values.{CellFits};
 ghost use Rattle.vm_state.specs.Saved.{requests_in};
-ghost use Rattle.vm_state.specs.Layout.{counts_in, calls_in, held_in, rest_in, rest_by, format_named, format_by, written_by, written_in};
+ghost use Rattle.vm_state.specs.Layout.{counts_in, calls_in, held_in, lists_in, rest_in, rest_by, format_named, format_by, written_by, written_in};
 ghost use Rattle.vm_state.specs.Parts.{counts_of, calls_of, held_of, state_of, written_of};
 
 use crate::parts::{Calls, Counts, Format, Held, Parts, Written};
@@ -80,6 +80,24 @@ fn read_held(
     })
 }
 
+#[tactic(auto, unfolding(crate::specs::Layout::lists_in))]
+fn read_lists(
+    alloc: Global,
+    stack: &Value,
+    frames: &Value,
+    throws: &Value,
+    upvalues: &Value,
+    heap: &Value,
+    trace: &Value,
+) -> Result<(Calls, Held), ReadStop>
+    ensures gives { Gives (λ l. (calls_of l.0, held_of l.1)) result (lists_in (view stack.now) (view frames.now) (view throws.now) (view upvalues.now) (view heap.now) (view trace.now)) }
+    ensures ranged { IfOk result (λ l. AllByRecursion CellFits (map cell_of l.1.cells.items)) }
+{
+    let calls = read_calls(alloc, stack, frames, throws)?;
+    let held = read_held(alloc, upvalues, heap, trace)?;
+    Ok((calls, held))
+}
+
 /// The elements behind the counts, and behind the number of requests.
 #[tactic(auto, unfolding(crate::specs::Layout::rest_in))]
 fn read_rest(alloc: Global, counts: Counts, items: &[Value]) -> Result<Parts, ReadStop>
@@ -89,14 +107,13 @@ fn read_rest(alloc: Global, counts: Counts, items: &[Value]) -> Result<Parts, Re
     match items {
         [globals, end, stack, frames, throws, upvalues, heap, trace] => {
             let globals = read_maybe::<u32>(alloc, globals)?;
-            let mode = read_mode(alloc, end)?;
-            let calls = read_calls(alloc, stack, frames, throws)?;
-            let held = read_held(alloc, upvalues, heap, trace)?;
+            let (calls, held) = read_lists(alloc, stack, frames, throws, upvalues, heap, trace)?;
+            let (waiting, end) = read_mode(alloc, end)?;
             Ok(Parts {
                 counts,
                 globals,
-                waiting: mode.0,
-                end: mode.1,
+                waiting,
+                end,
                 calls,
                 held,
             })

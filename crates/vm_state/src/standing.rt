@@ -9,7 +9,7 @@ ghost use Rattle.vm_frames.specs.Views.{upvalue_of};
 ghost use Rattle.state_forms.specs.Calls.{mode_of};
 ghost use Rattle.vm_state.specs.Saved.{requests_in};
 ghost use Rattle.vm_state.specs.Tests.{names, cell_stands, is_function, frame_stands, later_frames, frames_stand, base_at, reaches, lands, throw_stands, throws_stand, upvalue_stands, taken_with, upvalues_stand, globals_stand, ends_with_request, waits_for, format_stands, is_state, is_written};
-ghost use Rattle.vm_state.specs.Parts.{state_of, written_of, rest_stands};
+ghost use Rattle.vm_state.specs.Parts.{state_of, written_of, counts_hold, calls_hold, values_hold, parts_hold, upvalues_hold};
 
 use crate::parts::{Calls, Counts, Format, Held, Parts, Written};
 use hog_value::{Cell, End, HogText, TraceItem, Value};
@@ -61,9 +61,8 @@ fn cell_stands(cells: usize, upvalues: usize, cell: &Cell) -> bool
 }
 
 /// The same of each cell. Takes no memory.
-#[tactic(auto, using(crate::proofs::Seen::seen))]
 fn cells_stand(cells: &[Cell], upvalues: usize) -> bool
-    ensures { result ≡ list_all (cell_stands (length cells.now) upvalues) (map cell_of cells.now) }
+    ensures { result ≡ list_all (λ c. cell_stands (length cells.now) upvalues (cell_of c)) cells.now }
 {
     let count = cells.len();
     cells.iter().all(|c| cell_stands(count, upvalues, c))
@@ -182,12 +181,13 @@ fn throws_stand(frames: &[Frame], height: usize, throws: &[ThrowFrame]) -> bool
 }
 
 /// Whether frames and throw frames stand. Takes no memory.
-fn calls_stand(cells: &[Cell], calls: &Calls) -> bool
-    ensures { result ≡ (frames_stand (map cell_of cells.now) (length calls.now.stack.items) calls.now.frames.items && throws_stand calls.now.frames.items (length calls.now.stack.items) 0 0 calls.now.throws.items) }
+fn calls_stand(calls: &Calls, held: &Held) -> bool
+    ensures { result ≡ calls_hold calls.now held.now }
 {
     let height = calls.stack.len();
     let frames = calls.frames.as_slice();
-    frames_stand(cells, height, frames) && throws_stand(frames, height, calls.throws.as_slice())
+    frames_stand(held.cells.as_slice(), height, frames)
+        && throws_stand(frames, height, calls.throws.as_slice())
 }
 
 /// Whether an upvalue stands; the place of an open one is taken.
@@ -249,7 +249,7 @@ pub fn requests_in(trace: &[TraceItem]) -> u64
 
 /// Whether the counts stand, and the number of cells and of requests. Takes no memory.
 fn counts_stand(n: &Counts, held: &Held) -> bool
-    ensures { result ≡ (nat_le n.now.turns 100000 && nat_le n.now.units 4194304 && nat_le (8 * length held.now.cells.items) n.now.units && nat_le (requests_in held.now.trace.items) 100) }
+    ensures { result ≡ counts_hold n.now held.now }
 {
     n.turns <= 100_000
         && n.units <= 4_194_304
@@ -287,7 +287,7 @@ fn waits_for(waiting: bool, end: &Option<End>, trace: &[TraceItem]) -> bool
 
 /// Whether the values on the stack and in the cells stand. Takes no memory.
 fn values_stand(calls: &Calls, held: &Held) -> bool
-    ensures { result ≡ (list_all (names (length held.now.cells.items)) calls.now.stack.items && list_all (cell_stands (length held.now.cells.items) (length held.now.upvalues.items)) (map cell_of held.now.cells.items)) }
+    ensures { result ≡ values_hold calls.now held.now }
 {
     let cells = held.cells.as_slice();
     each_value_stands(cells.len(), calls.stack.as_slice())
@@ -295,21 +295,19 @@ fn values_stand(calls: &Calls, held: &Held) -> bool
 }
 
 /// Whether what was read is a state but for its upvalues. Takes no memory.
-#[tactic(auto, using(crate::proofs::Seen::seen))]
 fn rest_stands(p: &Parts) -> bool
-    ensures { result ≡ rest_stands (state_of p.now) }
+    ensures { result ≡ parts_hold p.now }
 {
-    let cells = p.held.cells.as_slice();
     counts_stand(&p.counts, &p.held)
-        && calls_stand(cells, &p.calls)
+        && calls_stand(&p.calls, &p.held)
         && values_stand(&p.calls, &p.held)
-        && globals_stand(cells, p.waiting, &p.end, p.globals)
+        && globals_stand(p.held.cells.as_slice(), p.waiting, &p.end, p.globals)
         && waits_for(p.waiting, &p.end, p.held.trace.as_slice())
 }
 
-/// Whether what was read is a state.
-fn parts_stand(alloc: Global, p: &Parts) -> Result<bool, AllocError>
-    ensures { IfOk result (λ b. b ≡ is_state (state_of p.now)) }
+/// The same, and of its upvalues.
+fn parts_hold(alloc: Global, p: &Parts) -> Result<bool, AllocError>
+    ensures { IfOk result (λ b. b ≡ (parts_hold p.now && upvalues_hold p.now)) }
 {
     if !rest_stands(p) {
         return Ok(false);
@@ -320,6 +318,13 @@ fn parts_stand(alloc: Global, p: &Parts) -> Result<bool, AllocError>
         p.calls.stack.len(),
         p.held.upvalues.as_slice(),
     )
+}
+
+/// Whether what was read is a state.
+fn parts_stand(alloc: Global, p: &Parts) -> Result<bool, AllocError>
+    ensures { IfOk result (λ b. b ≡ is_state (state_of p.now)) }
+{
+    parts_hold(alloc, p)
 }
 
 /// Whether a text in a format may say this end. Takes no memory.
