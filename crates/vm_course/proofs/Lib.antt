@@ -1,1 +1,8 @@
 mod Slices
+mod CodesFit
+mod CodesHeaps
+mod CodesMoves
+mod CodesGrow
+pub mod CodesBelong
+mod OnCourseReplies
+mod OnCourseRuns

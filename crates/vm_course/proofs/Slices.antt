@@ -1,6 +1,5 @@
 -- Two slices and one.
 use Rattle.std.proofs.Common.{◌≡◌, ℕ, zero, suc, ◌+◌, refl, sym, ap, ◌∙◌, arith}
-use Rattle.hog_value.specs.declared.trace.End.{End}
 use Rattle.hog_ops.specs.Plain.{Ops}
 use Rattle.vm_course.specs.State.{Running, Waiting, Ended, Mode}
 use Rattle.vm_course.specs.Run.{RunState, one_more, where_running, run_for}

@@ -1,5 +1,5 @@
 -- The machine on small codes, computed.
-use Rattle.std.specs.Prelude.{◌≡◌, pos, List, [], ◌∷◌, Some, codes}
+use Rattle.std.specs.Prelude.{◌≡◌, pos, [], Some, codes}
 use Rattle.std.proofs.Common.{refl}
 use Rattle.std.specs.Fmt.{digits}
 use Rattle.serde_json.proofs.OnLiterals.{serde_json_on_literals}
@@ -7,7 +7,7 @@ use Rattle.hog_value.specs.declared.trace.End.TheVariants as end
 use Rattle.hog_value.specs.Operations.{made}
 use Rattle.hog_json.specs.Texts.{shown, text_in}
 use Rattle.hog_json.specs.Reading.{kept_value}
-use Rattle.hog_ops.specs.Plain.{Ops, NoOp, MoreOp, Integer, Plus, Return, PushNull}
+use Rattle.hog_ops.specs.Plain.{NoOp, MoreOp, Integer, Plus, Return, PushNull}
 use Rattle.hog_meaning.specs.Operators.{operated}
 use Rattle.hog_meaning.specs.Program.{first_cells}
 use Rattle.vm_course.specs.Course.{machine, shown_by}

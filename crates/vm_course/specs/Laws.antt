@@ -1,10 +1,10 @@
 -- What the laws of codes and runs say.
-use Rattle.std.specs.Prelude.{◌≡◌, ℕ, suc, ◌+◌, ◌<◌, ◌≤◌, List, length, true, Some, IfSome, slice_get}
+use Rattle.std.specs.Prelude.{◌≡◌, ℕ, ◌+◌, ◌≤◌, List, length, true, Some, slice_get}
 use Rattle.hog_ops.specs.Plain.{Op, Ops}
 use Rattle.hog_ops.specs.Table.{size, span}
 use Rattle.hog_ops.specs.Valid.{IsCode}
 use Rattle.hog_meaning.specs.World.{Fixed, Reply}
-use Rattle.vm_course.specs.State.{Slot, Begins, code_slots, Running, Waiting, Ended, State}
+use Rattle.vm_course.specs.State.{Slot, Begins, code_slots, Waiting, State}
 use Rattle.vm_course.specs.Step.{step}
 use Rattle.vm_course.specs.Run.{RunState, begun, one_more, run_for, resumed, IsRunOf}
 use Rattle.vm_course.specs.Belongs.{belongs}

@@ -1,5 +1,5 @@
 -- A run between two operations, and what becomes of it by a slice and by a reply.
-use Rattle.std.specs.Prelude.{◌≡◌, ℕ, zero, suc, ◌+◌, ◌-◌, List, [], ◌∷◌, ◌++◌, length, drop, slice_get, Option, Some, None, unwrap_or}
+use Rattle.std.specs.Prelude.{◌≡◌, ℕ, zero, suc, ◌+◌, ◌-◌, ◌≤◌, List, [], ◌∷◌, length, drop, Option, Some, None, unwrap_or}
 use Rattle.hog_value.specs.declared.cell.FunCell.{FunCell}
 use Rattle.hog_value.specs.Values.{Val}
 use Rattle.hog_value.specs.Operations as op
@@ -51,17 +51,21 @@ abbrev pub run_for : Ops → ℕ → RunState → RunState
 run_for code zero r = r
 run_for code (suc n) r = where_running r.state.mode (run_for code n (one_more code r)) r
 
--- a reply is taken in
-abbrev pub resumed : Reply → RunState → RunState
-resumed reply r = record r { ops = r.ops + 1; used = r.used + 1; state = take_reply (reply ∷ []) r.state }
+-- A reply is taken in. It counts as used where its response fits; where it doesn't, the run has ended.
+abbrev pub resumed_as : State → RunState → RunState
+resumed_as after r = record r { ops = r.ops + 1; used = where_running after.mode (r.used + 1) r.used; state = after }
 
--- The run is that of a code on globals and replies, of which it has taken in the first: its state is the machine's after as
--- many operations, which has the other replies still to come.
+abbrev pub resumed : Reply → RunState → RunState
+resumed reply r = resumed_as (take_reply (reply ∷ []) r.state) r
+
+-- the state with these replies to come
 abbrev pub with_replies : List Reply → State → State
 with_replies replies s = record s { replies = replies }
 
+-- The run is that of a code on globals and replies, of which it has taken in the first: with the others still to come, its
+-- state is the machine's after as many operations.
 pub record IsRunOf (code : Ops) (globals : List ℕ) (replies : List Reply) (r : RunState) : Type 0 where
-  pub counted : (k : ℕ) → r.ops ≡ suc k → with_replies (drop r.used replies) r.state ≡ machine code globals replies k
-  pub begun : (k : ℕ) × (r.ops ≡ suc k)
+  pub begun : 1 ≤ r.ops
   pub cell : r.globals ≡ globals_cell (first_cells (literals_of_code code) globals)
+  pub state : with_replies (drop r.used replies) r.state ≡ machine code globals replies (r.ops - 1)
   pub none_left : r.state.replies ≡ []

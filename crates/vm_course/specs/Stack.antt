@@ -1,5 +1,5 @@
 -- How values come on the stack and leave it, and what becomes of upvalues then.
-use Rattle.std.specs.Prelude.{ℕ, zero, suc, ◌+◌, ◌-◌, max, List, [], ◌∷◌, ◌++◌, length, map, drop, Bool, true, false, Option, Some, None, option_and_then, option_map, unwrap_or, if◌then◌else◌, ◌==◌, nat_lt, nat_le, slice_get, slice_set}
+use Rattle.std.specs.Prelude.{ℕ, zero, suc, ◌+◌, ◌-◌, max, List, [], ◌∷◌, ◌++◌, length, map, drop, Option, Some, None, option_and_then, option_map, unwrap_or, if◌then◌else◌, ◌==◌, nat_lt, slice_get, slice_set}
 use Rattle.hog_value.specs.declared.cell.FunCell.{FunCell}
 use Rattle.hog_value.specs.Values.{Val}
 use Rattle.hog_value.specs.declared.value.Value.TheVariants.{Null}

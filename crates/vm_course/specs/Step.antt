@@ -1,9 +1,8 @@
 -- What each operation does.
-use Rattle.std.specs.Prelude.{ℕ, zero, suc, ◌+◌, ◌-◌, ℤ, pos, negsuc, List, [], ◌∷◌, ◌++◌, length, replicate, reverse, Bool, true, false, not, ◌&&◌, ◌||◌, Option, Some, None, option_and_then, unwrap_or, if◌then◌else◌, ◌==◌, nat_lt, nat_le, slice_get, slice_range, count_by, Result, Ok, Err}
+use Rattle.std.specs.Prelude.{ℕ, suc, ◌+◌, ◌-◌, ℤ, pos, negsuc, List, [], ◌∷◌, ◌++◌, length, replicate, reverse, Bool, true, false, not, ◌&&◌, Option, Some, None, unwrap_or, if◌then◌else◌, ◌==◌, nat_lt, nat_le, slice_get, slice_range, count_by, Result, Ok, Err}
 use Rattle.std.specs.List.{list_all, list_any}
 use Rattle.hog_value.specs.declared.cell.FunCell.{FunCell}
 use Rattle.hog_value.specs.declared.native.Native.{Native}
-use Rattle.hog_value.specs.declared.trace.End.{End}
 use Rattle.hog_value.specs.declared.trace.End.TheVariants as end
 use Rattle.hog_value.specs.declared.trace.TraceItem.{TraceItem}
 use Rattle.hog_value.specs.declared.trace.TraceItem.TheVariants.{Printed, Asked}
@@ -12,7 +11,7 @@ use Rattle.hog_value.specs.declared.value.Kind.TheVariants.{TypeError, ArgumentE
 use Rattle.hog_value.specs.Values.{Val}
 use Rattle.hog_value.specs.declared.value.Value.TheVariants.{Null, Bool as Truth, Int, Ref}
 use Rattle.hog_value.specs.Meters.{Spent, max_turns, max_depth}
-use Rattle.hog_value.specs.Cells.{CellOf, Array, Fun}
+use Rattle.hog_value.specs.Cells.{Array, Fun}
 use Rattle.hog_value.specs.Operations.{made, truth_of, key_of}
 use Rattle.hog_json.specs.Texts.{named_text}
 use Rattle.hog_library.specs.Called.{called}
@@ -23,7 +22,7 @@ use Rattle.hog_tree.specs.declared.tree.BinaryOp.TheVariants as b
 use Rattle.hog_ops.specs.declared.capture.Capture.{Capture}
 use Rattle.hog_ops.specs.Plain as o
 use Rattle.hog_ops.specs.Plain.{Op, Ops}
-use Rattle.hog_ops.specs.Table.{size, span}
+use Rattle.hog_ops.specs.Table.{size}
 use Rattle.hog_meaning.specs.Operators.{operated, accessed, assigned, dictionary_made}
 use Rattle.hog_meaning.specs.Meaning.{place_in, most_requests, is_request, is_fetch, is_null}
 use Rattle.hog_meaning.specs.World.{Fixed, Reply}

@@ -11,7 +11,7 @@ use Rattle.hog_value.specs.Operations as op
 use Rattle.hog_value.specs.Operations.{Outcome}
 use Rattle.hog_json.specs.Texts.{shown}
 use Rattle.hog_library.specs.Cells.{thrown}
-use Rattle.vm_course.specs.State.{Frame, ThrowFrame, Running, Waiting, Ended, State}
+use Rattle.vm_course.specs.State.{Frame, ThrowFrame, Ended, State}
 use Rattle.vm_course.specs.Stack.{cut_to, push, keep}
 
 abbrev pub ends : End → State → State

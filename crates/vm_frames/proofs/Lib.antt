@@ -5,4 +5,10 @@ mod Filling
 mod Closing
 mod Indexed
 mod Opening
+mod Listing
 mod Capturing
+mod Elements
+mod Texts
+mod Numbered
+mod Fitting
+mod Built

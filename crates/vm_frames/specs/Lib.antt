@@ -1,3 +1,4 @@
 pub mod Views
 pub mod Parts
 pub mod Reading
+pub mod Places

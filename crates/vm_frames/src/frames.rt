@@ -1,17 +1,20 @@
 //! The calls that a machine is in.
 
-ghost use Rattle.std.specs.Prelude.{◌≡◌, ◌≤◌, ◌<◌, [], ◌∷◌, length, OnOk, OnErr};
+ghost use Rattle.std.specs.Prelude.{◌≡◌, ◌≤◌, ◌<◌, [], ◌∷◌, length, reverse, OnOk, OnErr};
 ghost use Rattle.vm_course.specs.Stack.{keep};
 ghost use Rattle.vm_frames.specs.Parts.{first_of, others_of};
 
 use std::alloc::{AllocError, Global};
 use std::marker::Model;
 
-/// A call: the place of its next operation, where its locals begin on the stack, and the cell of its function.
+/// A call.
 #[derive(Clone, Copy)]
 pub struct Frame {
+    /// The place of its next operation in the code.
     pub place: u32,
+    /// Where its locals begin on the stack, counted from the bottom.
     pub base: u32,
+    /// The cell of its function; the program has none.
     pub function: Option<u32>,
 }
 
@@ -50,6 +53,21 @@ impl Frames {
         Frames {
             list: Vec::new(alloc),
         }
+    }
+
+    /// These calls, of which the innermost is the last. Takes no memory.
+    pub fn from_list(list: Vec<Frame>) -> Frames
+        requires { length list.items ≤ 256 }
+        ensures { result ≡ reverse list.items }
+    {
+        Frames { list }
+    }
+
+    /// The calls, the innermost last. Takes no memory.
+    pub fn list(&self) -> &[Frame]
+        ensures { self.now ≡ reverse result.now }
+    {
+        self.list.as_slice()
     }
 
     /// How many calls there are. Takes no memory.

@@ -1,16 +1,22 @@
-//! The parts of a machine: its stack, its frames, its throw frames and its upvalues.
+//! The parts of a machine: its stack, its frames, its throw frames, its upvalues, and the table of its code.
 //! Stands on vm_course, which says what a machine holds and does, hog_ops and hog_value.
 //! Contracts see each part as the list that the definitions of vm_course speak of, whatever holds it.
-//! Above, the machine's operations are made of the calls of the four types.
+//! Above, the machine's operations are made of the calls of the five types.
 //! No call but those that answer `AllocError` takes memory.
 #![tactic(auto)]
 
 pub mod frames;
+mod literals;
+mod slots;
 pub mod stack;
+pub mod table;
+#[cfg(test)]
+mod tests;
 pub mod throws;
 pub mod upvalues;
 
 pub use frames::{Frame, Frames};
 pub use stack::Stack;
+pub use table::{Begin, Table};
 pub use throws::{ThrowFrame, Throws};
 pub use upvalues::{Upvalue, Upvalues};

@@ -1,6 +1,6 @@
 //! The values of a machine's stack.
 
-ghost use Rattle.std.specs.Prelude.{◌≡◌, ◌<◌, ◌≤◌, ◌-◌, ℕ, [], ◌∷◌, ◌++◌, All, length, replicate, reverse, slice_range, IfOk, IfSome, OnOk, OnErr};
+ghost use Rattle.std.specs.Prelude.{◌≡◌, ◌<◌, ◌≤◌, ◌-◌, ℕ, [], ◌∷◌, ◌++◌, All, length, replicate, reverse, slice_range, IsOk, IfOk, IfSome, OnOk, OnErr};
 ghost use Rattle.hog_value.specs.Values.{NamesBelow};
 ghost use Rattle.hog_value.specs.declared.value.Value.TheVariants.{Null};
 ghost use Rattle.vm_course.specs.Stack.{value_at, with_value, keep, top_of, taken};
@@ -35,6 +35,23 @@ impl Stack {
         Stack {
             values: Vec::new(alloc),
         }
+    }
+
+    /// A stack of these values, the lowest first. 2^32 and more are answered as want of memory.
+    pub fn from_values(values: Vec<Value>) -> Result<Stack, AllocError>
+        ensures { IfOk result (λ s. s ≡ reverse values.items) }
+    {
+        if values.len() > u32::MAX as usize {
+            return Err(AllocError);
+        }
+        Ok(Stack { values })
+    }
+
+    /// The values, the lowest first. Takes no memory.
+    pub fn values(&self) -> &[Value]
+        ensures { self.now ≡ reverse result.now }
+    {
+        self.values.as_slice()
     }
 
     /// How many values there are. Takes no memory.
@@ -88,7 +105,7 @@ impl Stack {
         Ok(())
     }
 
-    /// Adds so many nulls on top.
+    /// Adds `n` nulls on top.
     pub fn push_nulls(&mut self, n: u32) -> Result<(), AllocError>
         ensures is { OnOk result (self.new ≡ replicate n Null ++ self.old) }
         ensures names { (m : ℕ) → All (NamesBelow m) self.old → All (NamesBelow m) self.new }
@@ -110,10 +127,11 @@ impl Stack {
         Ok(())
     }
 
-    /// So many arguments above a floor, which the values there are: those that are missing are null, and the deepest.
-    /// Takes no memory where none is missing.
+    /// Makes the values above a floor at least `n`: those that are missing are nulls under the others. The floor is a count of
+    /// values from the bottom; above a floor higher than the stack there are none. Takes no memory where none is missing.
     pub fn fill(&mut self, alloc: Global, floor: u32, n: u32) -> Result<(), AllocError>
         ensures is { OnOk result (self.new ≡ with_arguments floor n self.old) }
+        ensures none_missing { n ≤ length self.old - floor → IsOk result }
         ensures names { (m : ℕ) → All (NamesBelow m) self.old → All (NamesBelow m) self.new }
     {
         let there = self.len().saturating_sub(floor);
@@ -123,7 +141,7 @@ impl Stack {
         self.put_nulls(alloc, floor, n - there)
     }
 
-    /// Puts so many nulls under the values above a floor.
+    /// Puts `n` nulls under the values above a floor.
     fn put_nulls(&mut self, alloc: Global, floor: u32, n: u32) -> Result<(), AllocError>
         ensures is { OnOk result (self.new ≡ slice_range self.old 0 (length self.old - floor) ++ (replicate n Null ++ keep floor self.old)) }
         ensures names { (m : ℕ) → All (NamesBelow m) self.old → All (NamesBelow m) self.new }

@@ -1,6 +1,6 @@
 //! Where throws land.
 
-ghost use Rattle.std.specs.Prelude.{◌≡◌, [], ◌∷◌, OnOk, OnErr};
+ghost use Rattle.std.specs.Prelude.{◌≡◌, [], ◌∷◌, reverse, OnOk, OnErr};
 ghost use Rattle.vm_course.specs.Stack.{height_of};
 ghost use Rattle.vm_frames.specs.Parts.{first_of, others_of};
 ghost use Rattle.vm_course.specs.Step.{throws_around, without_try};
@@ -8,11 +8,14 @@ ghost use Rattle.vm_course.specs.Step.{throws_around, without_try};
 use std::alloc::{AllocError, Global};
 use std::marker::Model;
 
-/// Where a throw lands: how many frames are left then, how long the stack is, and the place that goes on.
+/// Where a throw lands.
 #[derive(Clone, Copy)]
 pub struct ThrowFrame {
+    /// How many frames are left then, that of the catch among them.
     pub frames: u32,
+    /// How many values of the stack are left then.
     pub height: u32,
+    /// The place in the code that goes on.
     pub catch: u32,
 }
 
@@ -49,6 +52,20 @@ impl Throws {
         Throws {
             list: Vec::new(alloc),
         }
+    }
+
+    /// These throw frames, as they came. Takes no memory.
+    pub fn from_list(list: Vec<ThrowFrame>) -> Throws
+        ensures { result ≡ reverse list.items }
+    {
+        Throws { list }
+    }
+
+    /// The throw frames, as they came. Takes no memory.
+    pub fn list(&self) -> &[ThrowFrame]
+        ensures { self.now ≡ reverse result.now }
+    {
+        self.list.as_slice()
     }
 
     /// The height below which a frame with this number has no operands by its last throw frame. Takes no memory.

@@ -1,13 +1,13 @@
 //! Variables that functions have captured.
 
-ghost use Rattle.std.specs.Prelude.{◌≡◌, ◌<◌, ◌≤◌, ◌^◌, ℕ, [], All, length, map, slice_get, slice_set, option_map, IfOk, IfNone, IfSome, Some, None};
+ghost use Rattle.std.specs.Prelude.{◌≡◌, ◌<◌, ◌≤◌, ◌^◌, ℕ, [], All, length, map, slice_get, slice_set, option_map, IsTrue, OnOk, IfOk, IfNone, IfSome, Some, None};
 ghost use Rattle.std.specs.BTreeMap.{get, Updates, IsUnchanged, btree_map_len};
 ghost use Rattle.std.specs.Ordering.{nat_cmp};
 ghost use Rattle.hog_value.specs.Values.{Val};
 ghost use Rattle.vm_course.specs.State.{Frame as FrameView, Closed as Shut};
-ghost use Rattle.vm_frames.specs.Parts.{ClosedBelow};
+ghost use Rattle.vm_frames.specs.Parts.{ClosedBelow, places_differ};
 ghost use Rattle.vm_course.specs.Stack.{close, find_open, or_opened, or_closed, capture_one, capture_all};
-ghost use Rattle.vm_frames.specs.Views.{upvalue_of};
+ghost use Rattle.vm_frames.specs.Views.{upvalue_of, IsIndexed, Notes};
 
 use crate::frames::Frame;
 use crate::stack::Stack;
@@ -63,6 +63,29 @@ fn take_last(numbers: &mut BTreeMap<u32, u32>, height: u32) -> Option<(u32, u32)
     numbers.pop_last()
 }
 
+/// Notes the number of an upvalue by its place, where it is open.
+fn note(numbers: &mut BTreeMap<u32, u32>, number: u32, upvalue: Upvalue) -> Result<(), AllocError>
+    ensures { OnOk result (Notes numbers.old numbers.new number upvalue) }
+{
+    if let Upvalue::Opened(place) = upvalue {
+        numbers.insert(place, number)?;
+    }
+    Ok(())
+}
+
+/// The numbers of the open upvalues of a list, by their places.
+fn numbers_by_place(alloc: Global, list: &[Upvalue]) -> Result<BTreeMap<u32, u32>, AllocError>
+    requires few { length list.now < 2 ^ 32 }
+    requires apart { IsTrue (places_differ (map upvalue_of list.now)) }
+    ensures { IfOk result (IsIndexed list.now) }
+{
+    let mut numbers = BTreeMap::new(alloc);
+    for (i, upvalue) in list.iter().enumerate() {
+        note(&mut numbers, i as u32, *upvalue)?;
+    }
+    Ok(numbers)
+}
+
 impl Upvalues {
     /// No upvalues. Takes no memory.
     pub fn new(alloc: Global) -> Upvalues
@@ -72,6 +95,23 @@ impl Upvalues {
             list: Vec::new(alloc),
             by_place: BTreeMap::new(alloc),
         }
+    }
+
+    /// The upvalues of a list, in its order.
+    pub fn from_list(alloc: Global, list: Vec<Upvalue>) -> Result<Upvalues, AllocError>
+        requires few { length list.items < 2 ^ 32 }
+        requires apart { IsTrue (places_differ (map upvalue_of list.items)) }
+        ensures { IfOk result (λ upvalues. upvalues ≡ map upvalue_of list.items) }
+    {
+        let by_place = numbers_by_place(alloc, &list)?;
+        Ok(Upvalues { list, by_place })
+    }
+
+    /// The upvalues, by number. Takes no memory.
+    pub fn list(&self) -> &[Upvalue]
+        ensures { self.now ≡ map upvalue_of result.now }
+    {
+        self.list.as_slice()
     }
 
     /// The upvalue with a number. Takes no memory.

@@ -1,9 +1,8 @@
 -- What comes of a native's answer.
-use Rattle.std.proofs.Common.{◌≡◌, ℕ, List, refl, ap, ap₂, sym, subst, ◌∙◌}
+use Rattle.std.proofs.Common.{◌≡◌, ℕ, refl, ap, ap₂, sym, ◌∙◌}
 use Rattle.hog_value.specs.declared.cell.FunCell.{FunCell}
 use Rattle.hog_value.specs.declared.trace.TraceItem.TheVariants.{Printed, Asked}
 use Rattle.hog_value.specs.declared.value.Value.TheVariants.{Null}
-use Rattle.hog_value.specs.Values.{Val}
 use Rattle.hog_value.specs.Meters.{Spent}
 use Rattle.hog_value.specs.Cells.{HeapOf}
 use Rattle.hog_library.specs.declared.call.NativeAnswer.{NativeAnswer}
@@ -14,8 +13,8 @@ use Rattle.hog_library.specs.Called.{Called, TurnsSpent, UnitsSpent}
 use Rattle.hog_library.specs.Answers.{answered, Keeps}
 use Rattle.vm_course.specs.State.{State, Waiting}
 use Rattle.vm_course.specs.Stack.{keep}
-use Rattle.vm_course.specs.Throws.{with_heap, throw_kind}
-use Rattle.vm_course.specs.Step.{on_with, on_and_push, said, spent_by, with_spent, of_native}
+use Rattle.vm_course.specs.Throws.{throw_kind}
+use Rattle.vm_course.specs.Step.{on_with, on_and_push, said, spent_by, of_native}
 use Rattle.vm_operations.specs.Here.{here_of, answer_taken, IsCallStopped}
 
 module _ (s : State) (b rest : ℕ) where

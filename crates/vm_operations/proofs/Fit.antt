@@ -1,13 +1,9 @@
 -- What a machine keeps.
-use Rattle.std.proofs.Common.{◌≡◌, ◌≤◌, ◌<◌, ◌+◌, ℕ, zero, suc, List, [], ◌∷◌, ◌++◌, Bool, true, false, cond, length, map, All, Option, Some, None, arith, refl, ap, sym, subst, ◌∙◌, length-append}
-use Rattle.std.proofs.lemmas.List.Elements.{All-map, All-head, All-tail, All-nil, All-cons}
+use Rattle.std.proofs.Common.{◌≤◌, ℕ, List, [], ◌∷◌, Bool, true, false, cond, length, map, All, Option, Some, None, arith}
+use Rattle.std.proofs.lemmas.List.Elements.{All-head, All-tail, All-nil, All-cons}
 use Rattle.std.specs.Prelude.{nat_lt, ◌==◌, IfSome}
 use Rattle.hog_value.specs.Values.{Val, NamesBelow}
 use Rattle.hog_value.specs.declared.value.Value.TheVariants.{Null, Bool as Truth, Int, Ref}
-use Rattle.std.proofs.lemmas.Option.{none-some}
-use Rattle.std.specs.Prelude.{slice_get, option_map}
-use Rattle.vm_frames.specs.declared.upvalues.Upvalue as u
-use Rattle.vm_frames.specs.Views.{upvalue_of}
 use Rattle.vm_course.specs.State.{Upvalue, Opened, Closed}
 use Rattle.vm_course.specs.Stack.{close, value_at, with_value, or_null}
 use Rattle.vm_frames.specs.Parts.{ClosedBelow}
@@ -60,13 +56,3 @@ with_named n [] place x new names = All-nil _
 with_named n (v ∷ vs) place x new names =
     with_or n v x vs (with_value vs place x) (length vs == place) (All-head (NamesBelow n) v vs names) new (All-tail (NamesBelow n) v vs names)
     (with_named n vs place x new (All-tail (NamesBelow n) v vs names))
-
-closed_at : (n : ℕ) (us : List Upvalue) (k : ℕ) (x : Upvalue) → All (ClosedBelow n) us → slice_get us k ≡ Some x → ClosedBelow n x
-closed_at n [] k x all is = absurd (none-some x is)
-closed_at n (u ∷ us) zero x all is = let same : u ≡ x = cc in subst (ClosedBelow n) same (All-head (ClosedBelow n) u us all)
-closed_at n (u ∷ us) (suc k) x all is = closed_at n us k x (All-tail (ClosedBelow n) u us all) is
-
--- an upvalue that is found
-pub closed_found : (n : ℕ) (us : List Upvalue) (k : ℕ) (r : Option u.Upvalue) → option_map upvalue_of r ≡ slice_get us k → All (ClosedBelow n) us → IfSome r (λ x. ClosedBelow n (upvalue_of x))
-closed_found n us k None is all = tt
-closed_found n us k (Some x) is all = closed_at n us k (upvalue_of x) all (sym is)

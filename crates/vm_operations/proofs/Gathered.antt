@@ -1,5 +1,5 @@
 -- Cells that are made of operands.
-use Rattle.std.proofs.Common.{◌≡◌, ◌+◌, ℕ, List, [], ◌∷◌, refl, ap, sym, ◌∙◌, arith}
+use Rattle.std.proofs.Common.{◌≡◌, List, [], ◌∷◌, refl, ap}
 use Rattle.hog_value.specs.declared.value.Kind.{Kind}
 use Rattle.hog_value.specs.declared.value.Stop.{Stop}
 use Rattle.hog_value.specs.declared.value.Stop.TheVariants as made

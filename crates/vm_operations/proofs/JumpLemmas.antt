@@ -1,5 +1,5 @@
 -- Jumps.
-use Rattle.std.proofs.Common.{◌≡◌, ◌≤◌, ◌<◌, ◌+◌, ℕ, suc, List, Bool, true, false, cond, arith, refl, ap, sym, subst, ◌∙◌}
+use Rattle.std.proofs.Common.{◌≡◌, ◌<◌, ◌+◌, true, false, cond, arith, refl, ap, sym, subst, ◌∙◌}
 use Rattle.std.proofs.lemmas.Bool.Decides.{nat_tests}
 use Rattle.std.specs.Prelude.{ℤ, pos, negsuc, int_le, nat_lt, Result, Err, OnErr}
 use Rattle.hog_value.specs.declared.trace.End.TheVariants.{TurnsSpent}

@@ -1,5 +1,5 @@
 -- Where a thrown value lands.
-use Rattle.std.proofs.Common.{◌≡◌, ◌≤◌, ◌<◌, ◌-◌, ℕ, List, [], ◌∷◌, Option, Some, length, drop, min, arith, refl, ap, ap₂, sym, subst, ◌∙◌, length-drop}
+use Rattle.std.proofs.Common.{◌≡◌, ◌<◌, ◌-◌, ℕ, List, [], ◌∷◌, Some, length, drop, min, arith, refl, ap, sym, ◌∙◌, length-drop}
 use Rattle.std.specs.Prelude.{Result, Ok, Err, OnOk}
 use Rattle.hog_value.specs.Values.{Val}
 use Rattle.vm_course.specs.State.{Frame, ThrowFrame, State}

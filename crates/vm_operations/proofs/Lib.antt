@@ -1,8 +1,9 @@
 mod Fit
 mod Landing
 mod Tops
-mod Taking
 mod Gathered
 mod Answered
 mod Paths
 mod JumpLemmas
+mod Making
+mod Calling

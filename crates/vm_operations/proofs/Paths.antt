@@ -1,6 +1,6 @@
 -- Properties by keys in order.
-use Rattle.std.proofs.Common.{◌≡◌, ◌<◌, ◌≤◌, ◌+◌, ℕ, zero, suc, List, [], ◌∷◌, length, take, drop, get_or, ◌-◌, arith, refl, ap, sym, ◌∙◌, drop-cons, length-drop}
-use Rattle.std.specs.Prelude.{Result, Ok, Err}
+use Rattle.std.proofs.Common.{◌≡◌, ◌<◌, ◌≤◌, ◌+◌, ℕ, suc, List, [], ◌∷◌, length, take, drop, get_or, ◌-◌, arith, refl, ap, ◌∙◌, drop-cons, length-drop}
+use Rattle.std.specs.Prelude.{Ok, Err}
 use Rattle.hog_value.specs.declared.value.Kind.{Kind}
 use Rattle.hog_value.specs.declared.value.Value.TheVariants.{Null}
 use Rattle.hog_value.specs.Values.{Val}

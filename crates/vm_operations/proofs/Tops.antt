@@ -1,5 +1,5 @@
 -- The operands of an operation, one after the other from the top.
-use Rattle.std.proofs.Common.{◌≡◌, ℕ, List, length, refl, ap, ap₂, sym, ◌∙◌}
+use Rattle.std.proofs.Common.{◌≡◌, ℕ, List, length, refl, ap, sym, ◌∙◌}
 use Rattle.std.proofs.Common.{cond}
 use Rattle.hog_value.specs.declared.value.Value.TheVariants.{Null, Bool as Truth, Int, Ref}
 use Rattle.hog_meaning.specs.Meaning.{is_null}
@@ -14,7 +14,7 @@ module _ (s : State) (behind floor all : ℕ) (ground : floor ≡ floor_of (inne
   under : (below : ℕ) (t : Val × List Val) → top_of floor (keep below s.stack) ≡ t → top_of (here_of behind s).floor (keep below s.stack) ≡ t
   under below t is = ap (λ f. top_of f (keep below s.stack)) (sym ground) ∙ is
 
-  first : (t : Val × List Val) → top_of floor (keep all s.stack) ≡ t → top_of (here_of behind s).floor s.stack ≡ t
+  pub first : (t : Val × List Val) → top_of floor (keep all s.stack) ≡ t → top_of (here_of behind s).floor s.stack ≡ t
   first t is = ap (top_of (here_of behind s).floor) (sym (keep-all s.stack all whole)) ∙ under all t is
 
   -- what goes by the topmost operand

@@ -5,7 +5,7 @@ use Rattle.hog_value.specs.declared.value.Stop.{Stop}
 use Rattle.hog_value.specs.declared.value.Stop.TheVariants as made
 use Rattle.hog_value.specs.declared.value.SetStop.{SetStop}
 use Rattle.hog_value.specs.declared.value.SetStop.TheVariants as stop
-use Rattle.hog_value.specs.Values.{Val, NamesBelow}
+use Rattle.hog_value.specs.Values.{NamesBelow}
 use Rattle.hog_value.specs.Cells.{IsCovered}
 use Rattle.hog_value.specs.declared.trace.TraceItem.TheVariants.{Printed, Asked}
 use Rattle.hog_value.specs.declared.value.Value.TheVariants.{Null}
@@ -18,7 +18,7 @@ use Rattle.hog_meaning.specs.Meaning.{place_in}
 use Rattle.hog_meaning.specs.World.{Fixed}
 use Rattle.vm_frames.specs.Parts.{innermost, others_of, ClosedBelow}
 use Rattle.vm_course.specs.State.{Slot, Waiting, State}
-use Rattle.vm_course.specs.Stack.{keep, floor_of}
+use Rattle.vm_course.specs.Stack.{keep}
 use Rattle.vm_course.specs.Throws.{ends, throw_kind}
 use Rattle.vm_course.specs.Step.{Here, here_at, on_with, on_and_push, said, act}
 

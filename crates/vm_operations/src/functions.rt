@@ -13,12 +13,12 @@ ghost use Rattle.vm_operations.specs.Here.{here_of, Does};
 ghost use Rattle.vm_frames.specs.Views.{upvalue_of as view_of};
 
 use crate::state::State;
-use vm_frames::upvalues::Upvalue;
 use hog_value::{Cell, End, Heap, Value};
 use std::alloc::{AllocError, Global};
+use vm_frames::upvalues::Upvalue;
 
 /// The numbers of the upvalues that a frame's function has captured. Takes no memory.
-fn captured_by(heap: &Heap, function: Option<u32>) -> &[u32]
+pub(crate) fn captured_by(heap: &Heap, function: Option<u32>) -> &[u32]
     ensures { result.now ≡ captured_in (option_and_then (function_at heap.entry.now) function) }
 {
     let Some(n) = function else {

@@ -7,9 +7,9 @@ ghost use Rattle.vm_course.specs.Step.{place_at, jump, jump_or_back};
 ghost use Rattle.vm_operations.specs.Here.{here_of, Does};
 
 use crate::state::State;
-use vm_frames::throws::ThrowFrame;
 use hog_value::{End, Value};
 use std::alloc::AllocError;
+use vm_frames::throws::ThrowFrame;
 
 /// The place at a distance.
 fn place_at(behind: u32, distance: i64) -> u32

@@ -5,6 +5,8 @@
 //! Want of memory alone is free.
 #![tactic(auto)]
 
+mod calls;
+mod closures;
 mod functions;
 mod gathers;
 mod globals;

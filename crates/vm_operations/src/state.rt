@@ -13,13 +13,13 @@ ghost use Rattle.vm_course.specs.Step.{on_with, on_and_push};
 ghost use Rattle.vm_frames.specs.Parts.{innermost, others_of};
 ghost use Rattle.vm_operations.specs.Here.{here_of};
 
+use hog_value::{End, Heap, Meter, Shown, Trace, Value};
+use std::alloc::{AllocError, Global};
+use std::marker::Model;
 use vm_frames::frames::{Frame, Frames};
 use vm_frames::stack::Stack;
 use vm_frames::throws::Throws;
 use vm_frames::upvalues::Upvalues;
-use hog_value::{End, Heap, Meter, Shown, Trace, Value};
-use std::alloc::{AllocError, Global};
-use std::marker::Model;
 
 /// What a machine holds between two operations. Contracts see it as the state of the definitions, without the replies that
 /// are to come. It waits for a reply where `waiting` is set, and has ended where an end is shown.

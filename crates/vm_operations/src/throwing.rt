@@ -1,14 +1,15 @@
 //! How a machine ends with a shown text, and where a throw lands.
 
-ghost use Rattle.std.specs.Prelude.{◌≡◌, ◌+◌, ◌≤◌, ◌<◌, length, take, IfOk, IfSome, IfNone, OnOk};
+ghost use Rattle.std.specs.Prelude.{◌≡◌, ℕ, ◌+◌, ◌≤◌, ◌<◌, length, take, IfOk, IfSome, IfNone, OnOk};
 ghost use Rattle.hog_value.specs.declared.trace.End.TheVariants.{Threw as EndsThrown};
 ghost use Rattle.hog_value.specs.Values.{NamesBelow};
 ghost use Rattle.hog_value.specs.Meters.{max_units};
 ghost use Rattle.hog_value.specs.Cells.{IsClosed};
 ghost use Rattle.hog_json.specs.Texts.{shown};
+ghost use Rattle.hog_ops.specs.Plain as o;
 ghost use Rattle.vm_course.specs.Stack.{keep};
 ghost use Rattle.vm_course.specs.Throws.{ends_shown, with_heap, throw_to, throw_value, throw_kind};
-ghost use Rattle.vm_operations.specs.Here.{IsFit};
+ghost use Rattle.vm_operations.specs.Here.{IsFit, Does};
 
 use crate::state::State;
 use hog_json::show;
@@ -99,7 +100,7 @@ impl State {
     }
 
     /// A value is thrown.
-    pub(crate) fn throw(&mut self, alloc: Global, v: Value) -> Result<(), AllocError>
+    pub(crate) fn throw_value(&mut self, alloc: Global, v: Value) -> Result<(), AllocError>
         requires { NamesBelow (length self.old.heap) v }
         ensures { OnOk result (self.new ≡ throw_value v self.old) }
     {
@@ -108,8 +109,18 @@ impl State {
         self.throw_from(alloc, v, cells, units)
     }
 
+    /// THROW
+    pub(crate) fn throw(&mut self, alloc: Global) -> Result<(), AllocError>
+        ensures { (behind : ℕ) → OnOk result (Does o.Throw behind self.old self.new) }
+    {
+        let floor = self.floor();
+        let all = self.len();
+        let (v, _) = self.top(floor, all);
+        self.throw_value(alloc, v)
+    }
+
     /// A kind is thrown, as the dictionary that is made of it.
-    #[tactic(auto, unfolding(crate::specs::Throws::throw_kind))]
+    #[tactic(auto, unfolding(vm_course::specs::Throws::throw_kind))]
     pub(crate) fn throw_kind(&mut self, alloc: Global, kind: Kind) -> Result<(), AllocError>
         ensures { OnOk result (self.new ≡ throw_kind kind self.old) }
     {

@@ -27,7 +27,12 @@ impl State {
     }
 
     /// STRING, where the text is the literal with a number.
-    pub(crate) fn string(&mut self, behind: u32, text: &HogText, cell: u32) -> Result<(), AllocError>
+    pub(crate) fn string(
+        &mut self,
+        behind: u32,
+        text: &HogText,
+        cell: u32,
+    ) -> Result<(), AllocError>
         requires { cell < length self.old.heap }
         ensures { OnOk result (PushesText text.now cell behind self.old self.new) }
     {

@@ -5,3 +5,14 @@ pub mod Plain
 pub mod Loading
 pub mod Exact
 pub mod Formats
+mod Alls
+mod HeapsStand
+mod NativesStand
+mod OperatorsStand
+mod FramesStand
+mod UpvaluesStand
+mod StatesStand
+mod ActsStand
+mod StartsStand
+mod IsStates
+mod RunsStand

@@ -1,17 +1,20 @@
 -- How saving and loading undo one another.
 use Rattle.std.specs.Prelude.{◌≡◌, ◌↔◌, ◌≢◌, ℕ, ◌<◌, ◌^◌, List, [], ◌∷◌, true, Option, Some, IfSome, Ok, Err, option_and_then}
 use Rattle.std.specs.List.{AllByRecursion}
-use Rattle.serde_json.specs.Data.{Data}
+use Rattle.serde_json.specs.Data.{Data, Members, object}
 use Rattle.serde_json.specs.Read.{read}
 use Rattle.hog_value.specs.declared.trace.End.TheVariants as end
+use Rattle.hog_json.specs.Reading.{kept_value}
 use Rattle.hog_ops.specs.Plain.{Ops}
+use Rattle.hog_ops.specs.Valid.{IsCode}
+use Rattle.hog_meaning.specs.World.{Reply}
 use Rattle.state_forms.specs.Shapes.{list_in, number_data}
 use Rattle.state_forms.specs.Values.{ValueFits, CellFits}
 use Rattle.state_forms.specs.Calls.{FrameFits, ThrowFits, UpvalueFits}
 use Rattle.vm_course.specs.State.{Ended}
 use Rattle.vm_state.specs.declared.stop.StateStop.{StateStop}
 use Rattle.vm_state.specs.declared.stop.StateStop.TheVariants as stops
-use Rattle.vm_course.specs.Run.{RunState}
+use Rattle.vm_course.specs.Run.{RunState, IsRunOf}
 use Rattle.vm_state.specs.declared.parts.Format.{Format}
 use Rattle.vm_state.specs.declared.parts.Format.TheVariants.{First, Second}
 use Rattle.vm_state.specs.Saved.{requests_in}
@@ -81,3 +84,22 @@ RefusesExactly = (code : Ops) (bytes : List ℕ) (e : StateStop) → e ≢ stops
 -- what was loaded is a state, and belongs to the code
 abbrev pub LoadsStates : Type 0
 LoadsStates = (code : Ops) (bytes : List ℕ) (m : RunState) → load_of code bytes ≡ Ok m → (is_state m ≡ true) × (belongs code m ≡ true)
+
+-- The globals are an object of JSON.
+abbrev pub AreGlobals : List ℕ → Type 0
+AreGlobals globals = (ms : Members) × (kept_value globals ≡ object ms)
+
+-- Each number of a run is one of its type, and no dictionary has a key twice: what the types of a machine that runs keep.
+pub record NumbersFit (r : RunState) : Type 0 where
+  pub ops : r.ops < 2 ^ 64
+  pub used : r.used < 2 ^ 64
+  pub stack : AllByRecursion ValueFits r.state.stack
+  pub frames : AllByRecursion FrameFits r.state.frames
+  pub throws : AllByRecursion ThrowFits r.state.throws
+  pub upvalues : AllByRecursion UpvalueFits r.state.upvalues
+  pub heap : AllByRecursion CellFits r.state.heap
+
+-- each run of a code on its globals and replies is a machine of the code, which is saved and loaded
+abbrev pub RunsAreMachines : Type 0
+RunsAreMachines = (code : Ops) (globals : List ℕ) (replies : List Reply) (r : RunState)
+    → IsCode code → AreGlobals globals → IsRunOf code globals replies r → NumbersFit r → IsMachineOf code r

@@ -1,5 +1,5 @@
 -- What is kept of a machine that is saved.
-use Rattle.std.specs.Prelude.{ℕ, List, Bool, true, false, count_by, Option}
+use Rattle.std.specs.Prelude.{ℕ, List, Bool, true, false, count_by}
 use Rattle.hog_value.specs.declared.trace.End.{End}
 use Rattle.hog_value.specs.declared.trace.End.TheVariants as end
 use Rattle.hog_value.specs.declared.trace.TraceItem.{TraceItem}

@@ -1,4 +1,4 @@
-use Rattle.std.proofs.Common.{◌≡◌, List, sym, ap, ap₂, ◌∙◌}
+use Rattle.std.proofs.Common.{List, sym, ap, ap₂, ◌∙◌}
 use Rattle.std.specs.List.{list_all}
 use Rattle.hog_value.specs.declared.value.Value.TheVariants.{Bool as Truth}
 use Rattle.hog_value.specs.Values.{Val}

@@ -1,22 +1,20 @@
-use Rattle.std.proofs.Common.{◌≡◌, ◌+◌, ◌*◌, List, sym, ap, ap₂, subst, ◌∙◌, arith}
+use Rattle.std.proofs.Common.{◌≡◌, List, sym, ap, ap₂, subst, ◌∙◌}
 use Rattle.std.proofs.lemmas.List.{reverse-reverse}
 use Rattle.std.specs.Prelude.{Err, reverse}
 use Rattle.hog_value.specs.Values.{Val}
 use Rattle.hog_value.specs.Meters.{Spent}
 use Rattle.hog_value.specs.Cells.{Array}
 use Rattle.hog_value.specs.Operations.{made}
-use Rattle.hog_meaning.specs.Operators.{dictionary_made}
-use Rattle.hog_operators.specs.Pairs.{in_turn}
 use Rattle.vm_course.specs.State.{State}
 use Rattle.vm_operations.specs.Seen.{seen}
 use Rattle.vm_course.specs.Stack.{keep, taken, floor_of}
-use Rattle.vm_course.specs.Step.{act, on_and_push, in_pairs}
+use Rattle.vm_course.specs.Step.{act, on_and_push}
 use Rattle.vm_course.specs.Throws.{with_heap, on_outcome}
 use Rattle.vm_frames.specs.Parts.{innermost}
 use Rattle.vm_operations.specs.Here.{here_of, IsStopped, set_stop}
 use Rattle.vm_operations.proofs.Landing.{on_ok}
 use Rattle.vm_operations.proofs.JumpLemmas.{on_err, stopped_is}
-use Rattle.vm_operations.proofs.Gathered.{pairs_same, stop_spent, stop_thrown}
+use Rattle.vm_operations.proofs.Gathered.{stop_spent, stop_thrown}
 use Rattle.vm_operations.proofs.state.State.array.Goals as goal
 
 pub returns-in-Ok : goal.returns-in-Ok

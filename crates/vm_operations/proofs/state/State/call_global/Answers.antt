@@ -1,12 +1,11 @@
 use Rattle.std.proofs.Common.{◌≡◌, List, cond, sym, ap, ap₂, subst, ◌∙◌}
 use Rattle.std.proofs.lemmas.List.{reverse-reverse}
-use Rattle.std.specs.Prelude.{Err, reverse, length, count_by, nat_le, ◌&&◌}
+use Rattle.std.specs.Prelude.{Err, reverse}
 use Rattle.hog_value.specs.declared.trace.End.TheVariants.{TooManyFetches}
 use Rattle.hog_value.specs.Values.{Val}
 use Rattle.hog_value.specs.Meters.{Spent}
 use Rattle.hog_library.specs.Called.{called}
 use Rattle.hog_library.specs.Answers.{Keeps}
-use Rattle.hog_meaning.specs.Meaning.{is_fetch, is_request, most_requests}
 use Rattle.vm_course.specs.State.{State}
 use Rattle.vm_operations.specs.Seen.{seen}
 use Rattle.vm_course.specs.Stack.{keep, taken, floor_of}

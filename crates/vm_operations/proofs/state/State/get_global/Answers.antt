@@ -1,9 +1,8 @@
-use Rattle.std.proofs.Common.{◌≡◌, ◌<◌, List, length, drop, get_or, sym, ap, ap₂, ◌∙◌, arith}
+use Rattle.std.proofs.Common.{◌≡◌, ◌<◌, List, length, drop, get_or, sym, ap, ◌∙◌, arith}
 use Rattle.std.proofs.lemmas.Bool.Decides.{nat_tests}
 use Rattle.hog_value.specs.declared.value.Value.TheVariants.{Null}
 use Rattle.hog_value.specs.Values.{Val}
 use Rattle.hog_json.specs.Texts.{named_text}
-use Rattle.vm_course.specs.State.{State}
 use Rattle.vm_course.specs.Stack.{keep, taken, floor_of}
 use Rattle.vm_course.specs.Step.{act, on_and_push, get_global, global_of, property_path}
 use Rattle.vm_course.specs.Throws.{on_result}

@@ -1,12 +1,7 @@
-use Rattle.std.proofs.Common.{◌≡◌, List, sym, ap, ap₂, ◌∙◌}
-use Rattle.hog_value.specs.Values.{Val}
-use Rattle.vm_course.specs.State.{State}
-use Rattle.vm_course.specs.Step.{act, on_with, on_and_push, binary}
-use Rattle.vm_course.specs.Stack.{keep}
-use Rattle.vm_course.specs.Throws.{on_result, on_outcome}
+use Rattle.std.proofs.Common.{ap, ◌∙◌}
+use Rattle.vm_course.specs.Step.{act, on_and_push}
 use Rattle.vm_operations.specs.Here.{here_of}
 use Rattle.vm_operations.proofs.Landing.{on_ok}
-use Rattle.vm_operations.proofs.Tops.{by_one, by_two, by_three}
 use Rattle.vm_operations.proofs.state.State.get_local.Goals as goal
 
 pub returns : goal.returns

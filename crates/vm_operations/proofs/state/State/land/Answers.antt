@@ -1,4 +1,4 @@
-use Rattle.std.proofs.Common.{◌≡◌, ◌<◌, length, arith, ap, sym, ◌∙◌}
+use Rattle.std.proofs.Common.{◌≡◌, length, arith, ap, sym, ◌∙◌}
 use Rattle.vm_frames.proofs.Lists.{length-keep, some_first}
 use Rattle.vm_operations.proofs.state.State.land.Goals as goal
 

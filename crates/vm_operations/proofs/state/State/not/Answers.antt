@@ -1,12 +1,10 @@
-use Rattle.std.proofs.Common.{◌≡◌, List, sym, ap, ap₂, ◌∙◌}
-use Rattle.hog_value.specs.Values.{Val}
+use Rattle.std.proofs.Common.{sym, ap, ◌∙◌}
 use Rattle.vm_course.specs.State.{State}
-use Rattle.vm_course.specs.Step.{act, on_with, on_and_push, binary}
+use Rattle.vm_course.specs.Step.{act, on_and_push}
 use Rattle.vm_course.specs.Stack.{keep}
-use Rattle.vm_course.specs.Throws.{on_result, on_outcome}
 use Rattle.vm_operations.specs.Here.{here_of}
 use Rattle.vm_operations.proofs.Landing.{on_ok}
-use Rattle.vm_operations.proofs.Tops.{by_one, by_two, by_three}
+use Rattle.vm_operations.proofs.Tops.{by_one}
 use Rattle.std.specs.Prelude.{not}
 use Rattle.hog_value.specs.declared.value.Value.TheVariants.{Bool as Truth}
 use Rattle.hog_value.specs.Operations.{truth_of}

@@ -1,20 +1,16 @@
-use Rattle.std.proofs.Common.{◌≡◌, List, sym, ap, ap₂, subst, ◌∙◌}
-use Rattle.hog_value.specs.Values.{Val}
+use Rattle.std.proofs.Common.{◌≡◌, sym, ap, ap₂, subst, ◌∙◌}
 use Rattle.vm_course.specs.State.{State}
-use Rattle.vm_course.specs.Step.{act, on_with, on_and_push, binary}
+use Rattle.vm_course.specs.Step.{act, on_with}
 use Rattle.vm_course.specs.Stack.{keep}
-use Rattle.vm_course.specs.Throws.{on_result, on_outcome}
+use Rattle.vm_course.specs.Throws.{on_outcome}
 use Rattle.vm_operations.specs.Here.{here_of, IsStopped}
 use Rattle.vm_operations.proofs.Landing.{on_ok}
-use Rattle.vm_operations.proofs.Tops.{by_one, by_two, by_three}
-use Rattle.hog_value.specs.declared.trace.End.TheVariants.{MemorySpent}
+use Rattle.vm_operations.proofs.Tops.{by_three}
 use Rattle.hog_value.specs.Meters.{Spent}
-use Rattle.hog_value.specs.Operations.{Gives, Throws, Spends}
 use Rattle.hog_meaning.specs.Operators.{assigned}
 use Rattle.vm_operations.specs.Seen.{seen}
-use Rattle.vm_course.specs.Throws.{ends, with_heap, throw_kind}
+use Rattle.vm_course.specs.Throws.{with_heap}
 use Rattle.std.specs.Prelude.{Err}
-use Rattle.hog_value.specs.declared.value.SetStop.TheVariants as stop
 use Rattle.vm_operations.proofs.JumpLemmas.{on_err, stopped_is}
 use Rattle.vm_operations.proofs.state.State.set_property.Goals as goal
 

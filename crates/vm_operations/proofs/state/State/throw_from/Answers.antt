@@ -1,7 +1,6 @@
-use Rattle.std.proofs.Common.{◌≡◌, ◌<◌, Some, length, min, arith, ap, ap₂, sym, ◌∙◌}
+use Rattle.std.proofs.Common.{◌≡◌, ◌<◌, Some, length, min, arith, ap, sym, ◌∙◌}
 use Rattle.vm_course.specs.State.{State, ThrowFrame}
 use Rattle.vm_operations.specs.Seen.{seen}
-use Rattle.vm_course.specs.Stack.{push}
 use Rattle.vm_frames.specs.Parts.{first_of, others_of}
 use Rattle.vm_operations.proofs.Landing.{on_ok, lands}
 use Rattle.vm_operations.proofs.state.State.throw_from.Goals as goal

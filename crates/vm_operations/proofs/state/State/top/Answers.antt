@@ -1,6 +1,5 @@
-use Rattle.std.proofs.Common.{subst, length, All}
+use Rattle.std.proofs.Common.{subst, length}
 use Rattle.hog_value.specs.Values.{NamesBelow}
-use Rattle.vm_operations.specs.Here.{IsFit}
 use Rattle.vm_course.specs.State.{State}
 use Rattle.vm_operations.proofs.state.State.top.Goals as goal
 

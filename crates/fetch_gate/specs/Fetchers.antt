@@ -1,0 +1,41 @@
+-- What fetchers tell, and what contracts see of those that answer from a list.
+use Rattle.std.specs.Prelude.{ℕ, ◌≡◌, ◌+◌, ◌-◌, ◌^◌, min, List, Option, Some}
+use Rattle.cyclotron_jobs.specs.declared.input.JobInput.{JobInput}
+use Rattle.cyclotron_jobs.specs.declared.input.Reply.{Reply}
+use Rattle.cyclotron_jobs.specs.declared.input.Answers.{Answers}
+use Rattle.cyclotron_jobs.specs.declared.input.Answers.TheVariants.{Free, Listed}
+use Rattle.cyclotron_jobs.specs.Replies.{listed_reply}
+
+-- the reply is the one that is told, where one is told
+abbrev pub IsOwn : Option Reply → Reply → Type 0
+IsOwn told reply = (own : Reply) → told ≡ Some own → reply ≡ own
+
+-- the same replies are told before and after
+abbrev pub TellsSame : (before after : JobInput → ℕ → Option Reply) → Type 0
+TellsSame before after = (input : JobInput) (n : ℕ) → after input n ≡ before input n
+
+-- the reply to the fetch of that number: that of the list, or else this one
+abbrev pub reply_of : Answers → ℕ → Reply → Reply
+reply_of Free n free = free
+reply_of (Listed replies) n free = listed_reply replies n
+
+-- the number of the next call; numbers stand still at the greatest u32
+abbrev pub next_call : ℕ → ℕ
+next_call calls = min (calls + 1) (2 ^ 32 - 1)
+
+-- the count after one more fault; it stands still at the greatest u64
+abbrev pub next_fault : ℕ → ℕ
+next_fault faults = min (faults + 1) (2 ^ 64 - 1)
+
+-- the reply to a free input, how often each fetch fails first, and the count of faults
+pub record ListOf : Type 0 where
+  pub free : Reply
+  pub misses : ℕ
+  pub faults : ℕ
+
+-- the reply to a free input, the calls that are to fail, how many calls there were, and the count of faults
+pub record FailingOf : Type 0 where
+  pub free : Reply
+  pub fails : List ℕ
+  pub calls : ℕ
+  pub faults : ℕ

@@ -1,0 +1,2 @@
+pub mod Fetchers
+pub mod Stops
