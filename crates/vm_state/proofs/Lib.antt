@@ -1,5 +1,7 @@
+pub mod Outcomes
 pub mod Seen
 pub mod Parted
+pub mod Facts
 pub mod Back
 pub mod Plain
 pub mod Loading

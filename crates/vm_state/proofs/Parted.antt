@@ -1,15 +1,20 @@
 -- A state stands where what it holds does, and its upvalues do.
-use Rattle.std.proofs.Common.{◌≡◌, [], length, Bool, true, false, ◌&&◌, map, refl}
+use Rattle.std.proofs.Common.{◌≡◌, [], length, Bool, true, false, ◌&&◌, map, refl, ap}
 use Rattle.std.proofs.lemmas.List.{length-map, length-reverse, reverse-reverse}
 use Rattle.std.proofs.lemmas.List.Folds.{list_all-map}
 use Rattle.std.specs.Prelude.{reverse}
 use Rattle.std.specs.List.{list_all}
 use Rattle.hog_value.specs.Views.{cell_of}
 use Rattle.vm_frames.specs.Views.{upvalue_of}
+use Rattle.hog_ops.specs.Plain.{Ops}
+use Rattle.vm_course.specs.State.{Slot, code_slots}
+use Rattle.vm_course.specs.Course.{literals_of_code}
 use Rattle.vm_course.specs.Run.{RunState}
+use Rattle.vm_course.specs.Belongs.{is_place, cell_belongs, places_belong, belongs}
 use Rattle.vm_state.specs.Tests.{names, cell_stands, upvalues_stand, counts_stand, calls_stand, globals_stand, waits_for, is_state}
 use Rattle.vm_state.specs.declared.parts.Parts.{Parts}
-use Rattle.vm_state.specs.Parts.{state_of, rest_stands, parts_hold, upvalues_hold}
+use Rattle.vm_state.specs.Parts.{state_of, rest_stands, parts_hold, upvalues_hold, places_hold, literals_hold}
+use Rattle.vm_state.proofs.Seen.{list_all-reverse}
 
 moved : (a b c d e g u : Bool) → (a && b && (c && d && u) && e && g) ≡ ((a && b && (c && d) && e && g) && u)
 moved false b c d e g u = refl
@@ -40,3 +45,15 @@ is_held p =
       length-reverse p.calls.stack.items, length-map p.held.cells.items cell_of, length-map p.held.upvalues.items upvalue_of,
       list_all-map (cell_stands (length p.held.cells.items) (length p.held.upvalues.items)) cell_of p.held.cells.items,
     ) refl
+
+places_held : (code : List Slot) (p : Parts) → places_belong code (state_of p).state ≡ places_hold code p
+places_held code p =
+    rw (
+      list_all-reverse (λ f. is_place code f.place) p.calls.frames.items,
+      list_all-reverse (λ t. is_place code t.catch) p.calls.throws.items,
+      list_all-map (cell_belongs code) cell_of p.held.cells.items,
+    ) refl
+
+pub belongs_held : (code : Ops) (p : Parts) → belongs code (state_of p) ≡ (places_hold (code_slots code) p && literals_hold (literals_of_code code) p)
+unfolding belongs
+belongs_held code p = ap (λ b. b && literals_hold (literals_of_code code) p) (places_held (code_slots code) p)

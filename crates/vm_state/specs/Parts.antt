@@ -1,11 +1,13 @@
 -- What was read of a state, as contracts see it.
-use Rattle.std.specs.Prelude.{◌*◌, ◌&&◌, [], length, reverse, Bool, nat_le, map}
+use Rattle.std.specs.Prelude.{ℕ, ◌*◌, ◌&&◌, List, [], length, reverse, Bool, nat_le, map}
 use Rattle.std.specs.List.{list_all}
 use Rattle.hog_value.specs.Meters.{max_turns, max_units}
 use Rattle.hog_value.specs.Views.{cell_of}
 use Rattle.hog_meaning.specs.Meaning.{most_requests}
 use Rattle.vm_frames.specs.Views.{upvalue_of}
+use Rattle.vm_course.specs.State.{Slot}
 use Rattle.vm_course.specs.Run.{RunState}
+use Rattle.vm_course.specs.Belongs.{is_place, cell_belongs, literals_belong}
 use Rattle.state_forms.specs.Calls.{mode_of}
 use Rattle.vm_state.specs.declared.parts.Counts as counts
 use Rattle.vm_state.specs.declared.parts.Calls as calls
@@ -59,3 +61,12 @@ parts_hold p =
 
 abbrev pub upvalues_hold : Parts → Bool
 upvalues_hold p = upvalues_stand (length p.held.cells.items) (length p.calls.stack.items) [] (map upvalue_of p.held.upvalues.items)
+
+-- the same of whether it belongs to a code with these slots and literals
+abbrev pub places_hold : List Slot → Parts → Bool
+places_hold code p =
+    list_all (λ f. is_place code f.place) p.calls.frames.items && list_all (λ t. is_place code t.catch) p.calls.throws.items
+    && list_all (λ cell. cell_belongs code (cell_of cell)) p.held.cells.items
+
+abbrev pub literals_hold : List (List ℕ) → Parts → Bool
+literals_hold literals p = literals_belong literals p.globals (map cell_of p.held.cells.items)

@@ -1,5 +1,5 @@
 use Rattle.std.proofs.Common.{◌≡◌, ap, ◌∙◌}
-use Rattle.std.specs.Prelude.{Result, Ok, Err, IfOk}
+use Rattle.vm_state.proofs.Outcomes.{IfOk_then}
 use Rattle.serde_json.specs.View.{view}
 use Rattle.serde_json.specs.Written.{compact_text, has_float}
 use Rattle.plain_json.specs.Fine.{no_float}
@@ -8,10 +8,6 @@ use Rattle.vm_state.specs.Layout.{saved_data}
 use Rattle.vm_state.specs.Text.{text_in}
 use Rattle.vm_state.proofs.Plain.{saved_fine}
 use Rattle.vm_state.proofs.writing.write_text.Goals as goal
-
-IfOk_then : {X E : Type 0} (r : Result X E) {P Q : X → Type 0} → IfOk r P → ((x : X) → P x → Q x) → IfOk r Q
-IfOk_then (Ok x) h f = f x h
-IfOk_then (Err e) h f = tt
 
 pub returns : goal.returns
 unfolding text_in
