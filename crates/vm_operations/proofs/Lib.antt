@@ -5,5 +5,8 @@ mod Gathered
 mod Answered
 mod Paths
 mod JumpLemmas
+mod Steps
 mod Making
 mod Calling
+mod Waits
+mod Standing

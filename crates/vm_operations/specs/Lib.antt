@@ -1,3 +1,5 @@
 pub mod Here
 pub mod Seen
+pub mod Kinds
+pub mod Machine
 pub mod Calls

@@ -11,7 +11,11 @@ mod functions;
 mod gathers;
 mod globals;
 mod jumps;
+pub mod machine;
 mod natives;
-mod state;
+pub mod state;
+mod step;
 mod throwing;
 mod values;
+
+pub use machine::Machine;
