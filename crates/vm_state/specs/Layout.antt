@@ -68,15 +68,16 @@ saved_of n globals mode c h = record {
   };
 }
 
-unfoldable pub lists_in : Data → Data → Data → Data → Data → Data → Option (Calls × Held)
-lists_in stack frames throws upvalues heap trace =
+-- stack, frames, throws, upvalues, heap, trace
+unfoldable pub lists_in : List Data → Option (Calls × Held)
+lists_in (stack ∷ frames ∷ throws ∷ upvalues ∷ heap ∷ trace ∷ []) =
     calls_in stack frames throws >>= λ c. held_in upvalues heap trace >>= λ h. Some (c, h)
+lists_in _ = None
 
--- the elements behind the counts: globals, end, stack, frames, throws, upvalues, heap, trace
+-- the elements behind the counts: globals, end, and the lists
 unfoldable pub rest_in : Counts → List Data → Option RunState
-rest_in n (globals ∷ ending ∷ stack ∷ frames ∷ throws ∷ upvalues ∷ heap ∷ trace ∷ []) =
-    maybe_in u32_in globals >>= λ g. lists_in stack frames throws upvalues heap trace >>= λ l. mode_in ending >>= λ m.
-    Some (saved_of n g m l.0 l.1)
+rest_in n (globals ∷ ending ∷ lists) =
+    maybe_in u32_in globals >>= λ g. lists_in lists >>= λ l. mode_in ending >>= λ m. Some (saved_of n g m l.0 l.1)
 rest_in n _ = None
 
 -- the number of requests stands before them in the second format; of the first it is counted

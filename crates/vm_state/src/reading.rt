@@ -80,22 +80,20 @@ fn read_held(
     })
 }
 
+/// The elements behind the end.
 #[tactic(auto, unfolding(crate::specs::Layout::lists_in))]
-fn read_lists(
-    alloc: Global,
-    stack: &Value,
-    frames: &Value,
-    throws: &Value,
-    upvalues: &Value,
-    heap: &Value,
-    trace: &Value,
-) -> Result<(Calls, Held), ReadStop>
-    ensures gives { Gives (λ l. (calls_of l.0, held_of l.1)) result (lists_in (view stack.now) (view frames.now) (view throws.now) (view upvalues.now) (view heap.now) (view trace.now)) }
+fn read_lists(alloc: Global, items: &[Value]) -> Result<(Calls, Held), ReadStop>
+    ensures gives { Gives (λ l. (calls_of l.0, held_of l.1)) result (lists_in (map view items.now)) }
     ensures ranged { IfOk result (λ l. AllByRecursion CellFits (map cell_of l.1.cells.items)) }
 {
-    let calls = read_calls(alloc, stack, frames, throws)?;
-    let held = read_held(alloc, upvalues, heap, trace)?;
-    Ok((calls, held))
+    match items {
+        [stack, frames, throws, upvalues, heap, trace] => {
+            let calls = read_calls(alloc, stack, frames, throws)?;
+            let held = read_held(alloc, upvalues, heap, trace)?;
+            Ok((calls, held))
+        }
+        _ => Err(ReadStop::Refused),
+    }
 }
 
 /// The elements behind the counts, and behind the number of requests.
@@ -105,9 +103,9 @@ fn read_rest(alloc: Global, counts: Counts, items: &[Value]) -> Result<Parts, Re
     ensures ranged { IfOk result (λ p. AllByRecursion CellFits (map cell_of p.held.cells.items)) }
 {
     match items {
-        [globals, end, stack, frames, throws, upvalues, heap, trace] => {
+        [globals, end, lists @ ..] => {
             let globals = read_maybe::<u32>(alloc, globals)?;
-            let (calls, held) = read_lists(alloc, stack, frames, throws, upvalues, heap, trace)?;
+            let (calls, held) = read_lists(alloc, lists)?;
             let (waiting, end) = read_mode(alloc, end)?;
             Ok(Parts {
                 counts,
