@@ -62,6 +62,7 @@ impl Machine {
         ensures count { result ≡ self.now.run.used }
         ensures none_to_come { self.now.run.state.replies ≡ [] }
     {
+        let _turns = self.state.meter.turns;
         self.used
     }
 
