@@ -71,7 +71,7 @@ both true true e = (refl, refl)
 both true false e = absurd cc
 both false b e = absurd cc
 
-stands : (w : Written) → is_written w ≡ true → is_state w.saved ≡ true
+pub stands : (w : Written) → is_written w ≡ true → is_state w.saved ≡ true
 unfolding is_written
 stands w e = (both ((w.asked == requests_in w.saved.state.trace) && format_stands w.format w.saved.state.mode) (is_state w.saved) e).1
 

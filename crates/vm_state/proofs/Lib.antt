@@ -5,6 +5,8 @@ pub mod Facts
 pub mod Back
 pub mod Plain
 pub mod Loading
+pub mod Lending
+pub mod Built
 pub mod Exact
 pub mod Formats
 mod Alls

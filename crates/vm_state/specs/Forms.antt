@@ -1,8 +1,12 @@
 -- The elements of a state whose parts have these forms.
-use Rattle.std.specs.Prelude.{ℕ, List, [], ◌∷◌, ◌++◌, codes}
+use Rattle.std.specs.Prelude.{ℕ, ◌<◌, ◌^◌, List, [], ◌∷◌, ◌++◌, IfSome, codes}
+use Rattle.std.specs.List.{AllByRecursion}
 use Rattle.serde_json.specs.Data.{Data, string}
 use Rattle.serde_json.specs.View.{view}
+use Rattle.vm_course.specs.Run.{RunState}
 use Rattle.state_forms.specs.Shapes.{number_data}
+use Rattle.state_forms.specs.Values.{ValueFits, CellFits}
+use Rattle.state_forms.specs.Calls.{FrameFits, ThrowFits, UpvalueFits}
 use Rattle.vm_state.specs.declared.parts.Format.{Format}
 use Rattle.vm_state.specs.declared.parts.Format.TheVariants.{First, Second}
 use Rattle.vm_state.specs.declared.parts.Counts.{Counts}
@@ -23,3 +27,12 @@ asked_shown Second n = number_data n ∷ []
 
 abbrev pub elements_by : Format → Counts → ℕ → Forms → List Data
 elements_by format n asked f = string (codes "hog-state") ∷ number_data (number_of_format format) ∷ counts_shown n ++ (asked_shown format asked ++ forms_shown f)
+
+-- the numbers in a machine's lists are of their types, and no dictionary has a key twice
+pub record ListsFit (m : RunState) : Type 0 where
+  pub globals : IfSome m.globals (λ n. n < 2 ^ 32)
+  pub stack : AllByRecursion ValueFits m.state.stack
+  pub frames : AllByRecursion FrameFits m.state.frames
+  pub throws : AllByRecursion ThrowFits m.state.throws
+  pub upvalues : AllByRecursion UpvalueFits m.state.upvalues
+  pub heap : AllByRecursion CellFits m.state.heap

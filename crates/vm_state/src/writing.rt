@@ -10,18 +10,23 @@ ghost use Rattle.state_forms.specs.Values.{value_data, cell_data, ValueFits, Cel
 ghost use Rattle.state_forms.specs.Shown.{item_data};
 ghost use Rattle.state_forms.specs.Calls.{frame_data, FrameFits, throw_data, ThrowFits, upvalue_data, UpvalueFits};
 ghost use Rattle.vm_state.specs.Laws.{SavedFits};
-ghost use Rattle.vm_state.specs.Layout.{elements_of};
+ghost use Rattle.vm_state.specs.Layout.{elements_of, rest_data};
 ghost use Rattle.vm_state.specs.Text.{text_in};
-ghost use Rattle.vm_state.specs.Forms.{counts_shown, forms_shown, elements_by};
+ghost use Rattle.vm_state.specs.Forms.{counts_shown, forms_shown, elements_by, ListsFit};
 
 use crate::parts::{Counts, Format};
+use crate::standing::requests_in;
 use hog_value::{Heap, TraceItem, Value as Val};
 use serde_json::Value;
-use state_forms::forms::{Json, list_value, number, number_wide, string, write_all, write_each};
+use state_forms::calls::write_mode;
+use state_forms::forms::{
+    Json, list_value, number, number_wide, string, write_all, write_each, write_maybe,
+};
 use state_forms::upvalues::write_upvalues;
 use state_forms::values::write_cells;
 use std::alloc::{AllocError, Global};
 use vm_frames::{Frame, ThrowFrame, Upvalue};
+use vm_operations::Machine;
 
 /// The forms of stack, frames and throw frames.
 #[derive(Drop)]
@@ -186,4 +191,41 @@ pub fn write_text(
     ensures { IfOk result (λ t. (m : RunState) → SavedFits m → elements_by format n.now asked f ≡ elements_of format m → string_bytes t ≡ text_in format m) }
 {
     elements(alloc, format, n, asked, f)?.to_string(alloc)
+}
+
+/// The forms of what stands behind a machine's counts.
+fn write_forms(alloc: Global, m: &Machine) -> Result<Forms, AllocError>
+    ensures form { IfOk result (λ f. forms_shown f ≡ rest_data m.now.run) }
+    ensures fits { IfOk result (λ _. ListsFit m.now.run) }
+{
+    let shown = m.shown();
+    let globals = write_maybe(alloc, &m.globals())?;
+    let end = write_mode(alloc, m.is_waiting(), &shown.end)?;
+    let calls = write_calls(alloc, m.stack(), m.around(), &m.innermost(), m.throws())?;
+    let held = write_held(alloc, m.upvalues(), m.heap(), shown.trace.items())?;
+    Ok(Forms {
+        globals,
+        end,
+        calls,
+        held,
+    })
+}
+
+/// The text of a machine in a format. A trace of 2^32 requests or more is answered as want of memory.
+pub fn write_machine(alloc: Global, format: Format, m: &Machine) -> Result<String, AllocError>
+    ensures text { IfOk result (λ t. string_bytes t ≡ text_in format m.now.run) }
+    ensures fits { IfOk result (λ _. SavedFits m.now.run) }
+{
+    let counts = Counts {
+        ops: m.ops(),
+        turns: m.turns(),
+        units: m.units(),
+        used: m.used(),
+    };
+    let asked = requests_in(m.shown().trace.items());
+    if asked > u32::MAX as u64 {
+        return Err(AllocError);
+    }
+    let forms = write_forms(alloc, m)?;
+    write_text(alloc, format, &counts, asked, forms)
 }
