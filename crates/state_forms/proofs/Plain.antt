@@ -1,5 +1,5 @@
 -- What is written is plain and shallow.
-use Rattle.std.proofs.Common.{ℕ, ◌<◌, ◌≤◌, ◌^◌, pos, negsuc, List, Option, Some, None, IfSome, arith}
+use Rattle.std.proofs.Common.{ℕ, ◌<◌, ◌^◌, pos, negsuc, List, Option, Some, None, IfSome, arith}
 use Rattle.std.specs.Prelude.{codes}
 use Rattle.serde_json.specs.Data.{string}
 use Rattle.hog_value.specs.declared.cell.FunCell.{FunCell}

@@ -1,3 +1,4 @@
 pub mod Shapes
 pub mod Values
 pub mod Shown
+pub mod Calls

@@ -3,3 +3,4 @@ pub mod Seen
 pub mod Kinds
 pub mod Machine
 pub mod Calls
+pub mod Parts

@@ -13,6 +13,7 @@ mod globals;
 mod jumps;
 pub mod machine;
 mod natives;
+pub mod parts;
 pub mod state;
 mod step;
 mod throwing;

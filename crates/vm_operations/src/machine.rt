@@ -25,11 +25,11 @@ use vm_frames::Table;
 /// until it is spent, the cell of its globals, and that it waits behind a request alone.
 #[derive(Drop)]
 pub struct Machine {
-    state: State,
-    ops: u64,
-    used: u64,
-    globals: Option<u32>,
-    spent: bool,
+    pub(crate) state: State,
+    pub(crate) ops: u64,
+    pub(crate) used: u64,
+    pub(crate) globals: Option<u32>,
+    pub(crate) spent: bool,
 }
 
 impl Model for Machine {

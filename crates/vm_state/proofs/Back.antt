@@ -2,43 +2,26 @@
 use Rattle.std.proofs.Common.{◌≡◌, List, [], ◌∷◌, Some, map, reverse, refl, sym, ap, ◌∙◌, subst}
 use Rattle.std.proofs.lemmas.List.{reverse-reverse, reverse-append}
 use Rattle.std.specs.List.{AllByRecursion}
-use Rattle.hog_value.specs.declared.trace.End.TheVariants as end
 use Rattle.hog_value.specs.declared.trace.TraceItem.{TraceItem}
 use Rattle.state_forms.specs.Shapes.{◌>>=◌, list, number_data}
 use Rattle.state_forms.specs.Values.{value_in, value_data, cell_in, cell_data, ValueFits, CellFits}
 use Rattle.state_forms.specs.Shown.{item_in, item_data}
 use Rattle.state_forms.proofs.Lists.{list_in-list, list_by_back, all_push}
+use Rattle.state_forms.specs.Calls.{frame_in, frame_data, FrameFits, throw_in, throw_data, ThrowFits, upvalue_in, upvalue_data, UpvalueFits}
 use Rattle.state_forms.proofs.Back.{u32_back, value_back, cell_back}
 use Rattle.state_forms.proofs.ShownBack.{maybe_back, item_back}
-use Rattle.vm_course.specs.State.{Upvalue, Opened, Closed, Frame, ThrowFrame, Running, Waiting, Ended, Mode, State}
+use Rattle.state_forms.proofs.CallsBack.{frame_back, throw_back, upvalue_back, mode_back}
+use Rattle.vm_course.specs.State.{State}
 use Rattle.vm_course.specs.Run.{RunState}
-use Rattle.vm_state.specs.Saved.{Format, First, Second, Written, requests_in}
-use Rattle.vm_state.specs.Layout.{frame_in, frame_data, throw_in, throw_data, upvalue_in, upvalue_data, mode_in, mode_data, Counts, counts_in, Calls, calls_in, Held, held_in, rest_in, rest_data, written_in, written_in_list, elements_of, saved_data}
-use Rattle.vm_state.specs.Laws.{FrameFits, ThrowFits, UpvalueFits, SavedFits}
+use Rattle.vm_state.specs.declared.parts.Format.{Format}
+use Rattle.vm_state.specs.declared.parts.Format.TheVariants.{First, Second}
+use Rattle.vm_state.specs.Saved.{Written, requests_in}
+use Rattle.vm_state.specs.Layout.{Counts, counts_in, Calls, calls_in, Held, held_in, lists_in, rest_in, rest_data, written_in, written_in_list, elements_of, saved_data}
+use Rattle.vm_state.specs.Laws.{SavedFits}
 
 pub all_reverse : {A : Type 0} (P : A → Type 0) (xs : List A) → AllByRecursion P xs → AllByRecursion P (reverse xs)
 all_reverse P [] h = tt
 all_reverse P (x ∷ xs) h = subst (AllByRecursion P) (sym (reverse-append (x ∷ []) xs)) (all_push P (reverse xs) x (all_reverse P xs h.1) h.0)
-
-pub frame_back : (f : Frame) → FrameFits f → frame_in (frame_data f) ≡ Some f
-frame_back f h = rw (u32_back f.place h.0, u32_back f.base h.1, maybe_back f.function h.2) refl
-
-pub throw_back : (t : ThrowFrame) → ThrowFits t → throw_in (throw_data t) ≡ Some t
-throw_back t h = rw (u32_back t.frames h.0, u32_back t.height h.1, u32_back t.catch h.2) refl
-
-pub upvalue_back : (u : Upvalue) → UpvalueFits u → upvalue_in (upvalue_data u) ≡ Some u
-upvalue_back (Opened p) h = rw (u32_back p h) refl
-upvalue_back (Closed v) h = rw (value_back v h) refl
-
-pub mode_back : (m : Mode) → mode_in (mode_data m) ≡ Some m
-mode_back Running = refl
-mode_back Waiting = refl
-mode_back (Ended (end.Done t)) = refl
-mode_back (Ended (end.Threw t)) = refl
-mode_back (Ended end.TurnsSpent) = refl
-mode_back (Ended end.MemorySpent) = refl
-mode_back (Ended end.TooDeep) = refl
-mode_back (Ended end.TooManyFetches) = refl
 
 abbrev counts_of : RunState → Counts
 counts_of m = record { ops = m.ops; turns = m.state.turns; units = m.state.units; used = m.used }
@@ -80,7 +63,7 @@ turned : (m : RunState) → m.state.replies ≡ [] → Some record m { state = r
 turned m none = rw (reverse-reverse m.state.stack, reverse-reverse m.state.frames, reverse-reverse m.state.throws, sym none) refl
 
 rest_back : (m : RunState) → SavedFits m → rest_in (counts_of m) (rest_data m) ≡ Some m
-unfolding rest_in
+unfolding rest_in lists_in
 rest_back m h = rw (maybe_back m.globals h.globals, mode_back m.state.mode, calls_back m h, held_back m h) (turned m h.replies)
 
 abbrev pub written_of : Format → RunState → Written

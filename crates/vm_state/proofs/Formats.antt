@@ -6,7 +6,9 @@ use Rattle.serde_json.specs.Data.{Data}
 use Rattle.hog_ops.specs.Plain.{Ops}
 use Rattle.state_forms.specs.Shapes.{◌>>=◌, list_in, u32_in}
 use Rattle.vm_course.specs.Run.{RunState}
-use Rattle.vm_state.specs.Saved.{Format, First, Second, Written, requests_in}
+use Rattle.vm_state.specs.declared.parts.Format.{Format}
+use Rattle.vm_state.specs.declared.parts.Format.TheVariants.{First, Second}
+use Rattle.vm_state.specs.Saved.{Written, requests_in}
 use Rattle.vm_state.specs.Layout.{Counts, counts_in, rest_in, rest_by, format_in, written_by, behind_format, written_in_list, written_in}
 use Rattle.vm_state.specs.Tests.{is_state, is_written, format_stands}
 use Rattle.vm_state.specs.Text.{text_in, where_state, state_in}
@@ -69,7 +71,7 @@ both true true e = (refl, refl)
 both true false e = absurd cc
 both false b e = absurd cc
 
-stands : (w : Written) → is_written w ≡ true → is_state w.saved ≡ true
+pub stands : (w : Written) → is_written w ≡ true → is_state w.saved ≡ true
 unfolding is_written
 stands w e = (both ((w.asked == requests_in w.saved.state.trace) && format_stands w.format w.saved.state.mode) (is_state w.saved) e).1
 

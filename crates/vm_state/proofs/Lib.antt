@@ -1,6 +1,12 @@
+pub mod Outcomes
+pub mod Seen
+pub mod Parted
+pub mod Facts
 pub mod Back
 pub mod Plain
 pub mod Loading
+pub mod Lending
+pub mod Built
 pub mod Exact
 pub mod Formats
 mod Alls

@@ -8,7 +8,9 @@ use Rattle.hog_ops.specs.Plain.{Ops}
 use Rattle.vm_course.specs.State.{Running, Waiting, Ended, Mode}
 use Rattle.vm_state.specs.declared.stop.StateStop.TheVariants as stops
 use Rattle.vm_course.specs.Run.{RunState}
-use Rattle.vm_state.specs.Saved.{Format, First, Second, requests_in}
+use Rattle.vm_state.specs.declared.parts.Format.{Format}
+use Rattle.vm_state.specs.declared.parts.Format.TheVariants.{First, Second}
+use Rattle.vm_state.specs.Saved.{requests_in}
 use Rattle.vm_state.specs.Layout.{saved_data}
 use Rattle.vm_state.specs.Tests.{is_state, is_written, format_stands}
 use Rattle.vm_course.specs.Belongs.{belongs}

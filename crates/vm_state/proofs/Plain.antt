@@ -6,29 +6,17 @@ use Rattle.plain_json.specs.Fine.{Fine, AllFine, ◌&◌, done, fine_list, fine_
 use Rattle.plain_json.specs.Inverse.{reads_back}
 use Rattle.state_forms.specs.Values.{value_data, cell_data, ValueFits, CellFits}
 use Rattle.state_forms.specs.Shown.{item_data}
-use Rattle.state_forms.proofs.Plain.{number_fine, small_fine, word_fine, value_fine, cell_fine, maybe_fine, item_fine, end_fine}
-use Rattle.vm_course.specs.State.{Upvalue, Opened, Closed, Frame, ThrowFrame, Running, Waiting, Ended, Mode}
+use Rattle.state_forms.specs.Calls.{frame_data, FrameFits, throw_data, ThrowFits, upvalue_data, UpvalueFits}
+use Rattle.state_forms.proofs.Plain.{number_fine, small_fine, word_fine, value_fine, cell_fine, maybe_fine, item_fine}
+use Rattle.state_forms.proofs.CallsBack.{frame_fine, throw_fine, upvalue_fine, mode_fine}
 use Rattle.vm_course.specs.Run.{RunState}
-use Rattle.vm_state.specs.Saved.{Format, First, Second, requests_in}
-use Rattle.vm_state.specs.Layout.{frame_data, throw_data, upvalue_data, mode_data, rest_data, saved_data}
+use Rattle.vm_state.specs.declared.parts.Format.{Format}
+use Rattle.vm_state.specs.declared.parts.Format.TheVariants.{First, Second}
+use Rattle.vm_state.specs.Saved.{requests_in}
+use Rattle.vm_state.specs.Layout.{rest_data, saved_data}
 use Rattle.vm_state.specs.Text.{text_in}
-use Rattle.vm_state.specs.Laws.{FrameFits, ThrowFits, UpvalueFits, SavedFits}
+use Rattle.vm_state.specs.Laws.{SavedFits}
 use Rattle.vm_state.proofs.Back.{all_reverse, all_any}
-
-frame_fine : (f : Frame) → FrameFits f → Fine 1 (frame_data f)
-frame_fine f h = fine_list 0 (small_fine 0 f.place h.0 & small_fine 0 f.base h.1 & maybe_fine 0 f.function h.2 & done)
-
-throw_fine : (t : ThrowFrame) → ThrowFits t → Fine 1 (throw_data t)
-throw_fine t h = fine_list 0 (small_fine 0 t.frames h.0 & small_fine 0 t.height h.1 & small_fine 0 t.catch h.2 & done)
-
-upvalue_fine : (u : Upvalue) → UpvalueFits u → Fine 2 (upvalue_data u)
-upvalue_fine (Opened p) h = fine_list 1 (small_fine 1 0 (omega arith) & small_fine 1 p h & done)
-upvalue_fine (Closed v) h = fine_list 1 (small_fine 1 1 (omega arith) & value_fine v h & done)
-
-mode_fine : (m : Mode) → Fine 1 (mode_data m)
-mode_fine Running = record { plain = tt; shallow = omega arith }
-mode_fine Waiting = word_fine 1 (codes "wait")
-mode_fine (Ended e) = end_fine e
 
 rest_fine : (m : RunState) → SavedFits m → AllFine 5 (rest_data m)
 rest_fine m h =

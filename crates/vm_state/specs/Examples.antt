@@ -10,8 +10,8 @@ use Rattle.vm_course.specs.State.{Running}
 use Rattle.state_forms.specs.Shapes.{list_by}
 use Rattle.vm_state.specs.declared.stop.StateStop.TheVariants as stops
 use Rattle.vm_course.specs.Run.{RunState}
-use Rattle.vm_state.specs.Saved.{First}
-use Rattle.vm_state.specs.Layout.{counts_in, calls_in, held_in, rest_in}
+use Rattle.vm_state.specs.declared.parts.Format.TheVariants.{First}
+use Rattle.vm_state.specs.Layout.{counts_in, calls_in, held_in, lists_in, rest_in}
 use Rattle.vm_state.specs.Tests.{is_state, is_written}
 use Rattle.vm_course.specs.Belongs.{belongs}
 use Rattle.vm_state.specs.Text.{text_in, state_text, state_in, of_read, load_of}
@@ -48,31 +48,31 @@ unfolding text_in digits serde_json_on_literals
 saved_before = refl
 
 loaded : load_of one (codes "[\"hog-state\",2,2,0,8,0,0,0,null,[1],[[4,0,null]],[],[],[[\"d\",[]]],[]]") ≡ Ok after_two
-unfolding load_of of_read state_in is_written is_state belongs text_in rest_in counts_in calls_in held_in list_by digits serde_json_on_literals
+unfolding load_of of_read state_in is_written is_state belongs text_in rest_in lists_in counts_in calls_in held_in list_by digits serde_json_on_literals
 loaded = refl
 
 loaded_old : load_of one (codes "[\"hog-state\",1,2,0,8,0,0,null,[1],[[4,0,null]],[],[],[[\"d\",[]]],[]]") ≡ Ok after_two
-unfolding load_of of_read state_in is_written is_state belongs text_in rest_in counts_in calls_in held_in list_by digits serde_json_on_literals
+unfolding load_of of_read state_in is_written is_state belongs text_in rest_in lists_in counts_in calls_in held_in list_by digits serde_json_on_literals
 loaded_old = refl
 
 no_json : load_of one (codes "[") ≡ Err stops.NotJson
-unfolding load_of of_read state_in is_written is_state belongs text_in rest_in counts_in calls_in held_in list_by digits serde_json_on_literals
+unfolding load_of of_read state_in is_written is_state belongs text_in rest_in lists_in counts_in calls_in held_in list_by digits serde_json_on_literals
 no_json = refl
 
 no_state : load_of one (codes "[]") ≡ Err stops.NotAState
-unfolding load_of of_read state_in is_written is_state belongs text_in rest_in counts_in calls_in held_in list_by digits serde_json_on_literals
+unfolding load_of of_read state_in is_written is_state belongs text_in rest_in lists_in counts_in calls_in held_in list_by digits serde_json_on_literals
 no_state = refl
 
 -- no cell 1
 no_cell : load_of one (codes "[\"hog-state\",2,2,0,8,0,0,0,null,[[1]],[[4,0,null]],[],[],[[\"d\",[]]],[]]") ≡ Err stops.NotAState
-unfolding load_of of_read state_in is_written is_state belongs text_in rest_in counts_in calls_in held_in list_by digits serde_json_on_literals
+unfolding load_of of_read state_in is_written is_state belongs text_in rest_in lists_in counts_in calls_in held_in list_by digits serde_json_on_literals
 no_cell = refl
 
 -- the operand of INTEGER
 no_operation : load_of one (codes "[\"hog-state\",2,2,0,8,0,0,0,null,[1],[[3,0,null]],[],[],[[\"d\",[]]],[]]") ≡ Err stops.NotThisCode
-unfolding load_of of_read state_in is_written is_state belongs text_in rest_in counts_in calls_in held_in list_by digits serde_json_on_literals
+unfolding load_of of_read state_in is_written is_state belongs text_in rest_in lists_in counts_in calls_in held_in list_by digits serde_json_on_literals
 no_operation = refl
 
 spaced : load_of one (codes "[\"hog-state\", 2,2,0,8,0,0,0,null,[1],[[4,0,null]],[],[],[[\"d\",[]]],[]]") ≡ Err stops.NotCanonical
-unfolding load_of of_read state_in is_written is_state belongs text_in rest_in counts_in calls_in held_in list_by digits serde_json_on_literals
+unfolding load_of of_read state_in is_written is_state belongs text_in rest_in lists_in counts_in calls_in held_in list_by digits serde_json_on_literals
 spaced = refl

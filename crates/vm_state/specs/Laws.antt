@@ -10,11 +10,14 @@ use Rattle.hog_ops.specs.Valid.{IsCode}
 use Rattle.hog_meaning.specs.World.{Reply}
 use Rattle.state_forms.specs.Shapes.{list_in, number_data}
 use Rattle.state_forms.specs.Values.{ValueFits, CellFits}
-use Rattle.vm_course.specs.State.{Upvalue, Opened, Closed, Frame, ThrowFrame, Ended}
+use Rattle.state_forms.specs.Calls.{FrameFits, ThrowFits, UpvalueFits}
+use Rattle.vm_course.specs.State.{Ended}
 use Rattle.vm_state.specs.declared.stop.StateStop.{StateStop}
 use Rattle.vm_state.specs.declared.stop.StateStop.TheVariants as stops
 use Rattle.vm_course.specs.Run.{RunState, IsRunOf}
-use Rattle.vm_state.specs.Saved.{Format, First, Second, requests_in}
+use Rattle.vm_state.specs.declared.parts.Format.{Format}
+use Rattle.vm_state.specs.declared.parts.Format.TheVariants.{First, Second}
+use Rattle.vm_state.specs.Saved.{requests_in}
 use Rattle.vm_state.specs.Layout.{format_in, elements_of}
 use Rattle.vm_state.specs.Tests.{is_state}
 use Rattle.vm_course.specs.Belongs.{belongs}
@@ -22,16 +25,6 @@ use Rattle.vm_state.specs.Text.{text_in, load_of}
 use Rattle.vm_state.specs.Refusals.{IsLoaded, IsRefused}
 
 -- each number is one of its type, no dictionary has a key twice, and replies are no part of a machine
-abbrev pub FrameFits : Frame → Type 0
-FrameFits f = (f.place < 2 ^ 32) × (f.base < 2 ^ 32) × IfSome f.function (λ n. n < 2 ^ 32)
-
-abbrev pub ThrowFits : ThrowFrame → Type 0
-ThrowFits t = (t.frames < 2 ^ 32) × (t.height < 2 ^ 32) × (t.catch < 2 ^ 32)
-
-abbrev pub UpvalueFits : Upvalue → Type 0
-UpvalueFits (Opened place) = place < 2 ^ 32
-UpvalueFits (Closed v) = ValueFits v
-
 pub record SavedFits (m : RunState) : Type 0 where
   pub ops : m.ops < 2 ^ 64
   pub turns : m.state.turns < 2 ^ 32

@@ -1,71 +1,20 @@
 -- How a machine is written as JSON data, and how data is read as a machine.
-use Rattle.std.specs.Prelude.{ℕ, ◌==◌, List, [], ◌∷◌, ◌++◌, Bool, false, Option, Some, None, is_some, if◌then◌else◌, map, reverse, codes, bytes_eq}
-use Rattle.serde_json.specs.Data.{Data, null, string}
-use Rattle.serde_json.specs.Find.{as_null, as_str}
+use Rattle.std.specs.Prelude.{ℕ, ◌==◌, List, [], ◌∷◌, ◌++◌, Option, Some, None, if◌then◌else◌, map, reverse, codes, bytes_eq}
+use Rattle.serde_json.specs.Data.{Data, string}
+use Rattle.serde_json.specs.Find.{as_str}
 use Rattle.hog_value.specs.declared.cell.FunCell.{FunCell}
 use Rattle.hog_value.specs.declared.trace.TraceItem.{TraceItem}
 use Rattle.hog_value.specs.Values.{Val}
 use Rattle.hog_value.specs.Cells.{HeapOf}
 use Rattle.state_forms.specs.Shapes.{◌>>=◌, list_in, list, list_by, u32_in, u64_in, number_data, maybe_in, maybe_data}
 use Rattle.state_forms.specs.Values.{value_in, value_data, cell_in, cell_data}
-use Rattle.state_forms.specs.Shown.{item_in, item_data, end_in, end_data}
-use Rattle.vm_course.specs.State.{Upvalue, Opened, Closed, Frame, ThrowFrame, Running, Waiting, Ended, Mode}
+use Rattle.state_forms.specs.Shown.{item_in, item_data}
+use Rattle.state_forms.specs.Calls.{frame_in, frame_data, throw_in, throw_data, upvalue_in, upvalue_data, mode_in, mode_data}
+use Rattle.vm_course.specs.State.{Upvalue, Frame, ThrowFrame, Mode}
 use Rattle.vm_course.specs.Run.{RunState}
-use Rattle.vm_state.specs.Saved.{Format, First, Second, Written, requests_in}
-
--- [place, base, cell of the function or null]
-abbrev pub frame_in_list : List Data → Option Frame
-frame_in_list (p ∷ b ∷ f ∷ []) =
-    u32_in p >>= λ place. u32_in b >>= λ base. maybe_in u32_in f >>= λ function. Some record { place = place; base = base; function = function }
-frame_in_list _ = None
-
-abbrev pub frame_in : Data → Option Frame
-frame_in d = list_in d >>= frame_in_list
-
-abbrev pub frame_data : Frame → Data
-frame_data f = list (number_data f.place ∷ number_data f.base ∷ maybe_data number_data f.function ∷ [])
-
--- [number of frames, stack length, catch place]
-abbrev pub throw_in_list : List Data → Option ThrowFrame
-throw_in_list (n ∷ h ∷ c ∷ []) =
-    u32_in n >>= λ frames. u32_in h >>= λ height. u32_in c >>= λ catch. Some record { frames = frames; height = height; catch = catch }
-throw_in_list _ = None
-
-abbrev pub throw_in : Data → Option ThrowFrame
-throw_in d = list_in d >>= throw_in_list
-
-abbrev pub throw_data : ThrowFrame → Data
-throw_data t = list (number_data t.frames ∷ number_data t.height ∷ number_data t.catch ∷ [])
-
--- [0, stack place] while open, [1, value] when closed
-abbrev pub upvalue_by : ℕ → Data → Option Upvalue
-upvalue_by n d = if n == 0 then (u32_in d >>= λ place. Some (Opened place)) else (if n == 1 then (value_in d >>= λ v. Some (Closed v)) else None)
-
-abbrev pub upvalue_in_list : List Data → Option Upvalue
-upvalue_in_list (k ∷ d ∷ []) = u32_in k >>= λ n. upvalue_by n d
-upvalue_in_list _ = None
-
-abbrev pub upvalue_in : Data → Option Upvalue
-upvalue_in d = list_in d >>= upvalue_in_list
-
-abbrev pub upvalue_data : Upvalue → Data
-upvalue_data (Opened place) = list (number_data 0 ∷ number_data place ∷ [])
-upvalue_data (Closed v) = list (number_data 1 ∷ value_data v ∷ [])
-
--- null while the machine goes on, "wait" while it waits, or its end
-abbrev pub is_wait : Option (List ℕ) → Bool
-is_wait None = false
-is_wait (Some word) = bytes_eq word (codes "wait")
-
-abbrev pub mode_in : Data → Option Mode
-mode_in d =
-    if is_some (as_null d) then Some Running
-    else (if is_wait (as_str d) then Some Waiting else (end_in d >>= λ e. Some (Ended e)))
-
-abbrev pub mode_data : Mode → Data
-mode_data Running = null
-mode_data Waiting = string (codes "wait")
-mode_data (Ended e) = end_data e
+use Rattle.vm_state.specs.declared.parts.Format.{Format}
+use Rattle.vm_state.specs.declared.parts.Format.TheVariants.{First, Second}
+use Rattle.vm_state.specs.Saved.{Written, requests_in}
 
 -- Stack, frames and throw frames are written from the bottom: the program's frame comes first.
 
@@ -119,11 +68,16 @@ saved_of n globals mode c h = record {
   };
 }
 
--- the elements behind the counts: globals, end, stack, frames, throws, upvalues, heap, trace
+-- stack, frames, throws, upvalues, heap, trace
+unfoldable pub lists_in : List Data → Option (Calls × Held)
+lists_in (stack ∷ frames ∷ throws ∷ upvalues ∷ heap ∷ trace ∷ []) =
+    calls_in stack frames throws >>= λ c. held_in upvalues heap trace >>= λ h. Some (c, h)
+lists_in _ = None
+
+-- the elements behind the counts: globals, end, and the lists
 unfoldable pub rest_in : Counts → List Data → Option RunState
-rest_in n (globals ∷ ending ∷ stack ∷ frames ∷ throws ∷ upvalues ∷ heap ∷ trace ∷ []) =
-    maybe_in u32_in globals >>= λ g. mode_in ending >>= λ m. calls_in stack frames throws >>= λ c. held_in upvalues heap trace >>= λ h.
-    Some (saved_of n g m c h)
+rest_in n (globals ∷ ending ∷ lists) =
+    maybe_in u32_in globals >>= λ g. lists_in lists >>= λ l. mode_in ending >>= λ m. Some (saved_of n g m l.0 l.1)
 rest_in n _ = None
 
 -- the number of requests stands before them in the second format; of the first it is counted
@@ -136,8 +90,11 @@ abbrev pub format_named : List ℕ → ℕ → Option Format
 format_named word number =
     if bytes_eq word (codes "hog-state") then (if number == 1 then Some First else (if number == 2 then Some Second else None)) else None
 
+abbrev pub format_by : Data → Data → Option Format
+format_by name version = as_str name >>= λ word. u64_in version >>= λ n. format_named word n
+
 abbrev pub format_in : List Data → Option Format
-format_in (name ∷ version ∷ ds) = as_str name >>= λ word. u64_in version >>= λ n. format_named word n
+format_in (name ∷ version ∷ ds) = format_by name version
 format_in _ = None
 
 -- ["hog-state",1,ops,turns,units,used,globals,end,stack,frames,throws,upvalues,heap,trace], or

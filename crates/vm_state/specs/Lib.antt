@@ -5,3 +5,5 @@ pub mod Text
 pub mod Refusals
 pub mod Laws
 pub mod Examples
+pub mod Parts
+pub mod Forms

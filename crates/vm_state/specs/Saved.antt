@@ -6,12 +6,7 @@ use Rattle.hog_value.specs.declared.trace.TraceItem.{TraceItem}
 use Rattle.hog_meaning.specs.Meaning.{is_request}
 use Rattle.vm_course.specs.State.{Running, Waiting, Ended, Mode}
 use Rattle.vm_course.specs.Run.{RunState}
-
--- The second format has the number of requests beside the number of replies; it is the one in which machines are saved.
--- The first is older, and is still read.
-pub data Format : Type 0 where
-  First : Format
-  Second : Format
+use Rattle.vm_state.specs.declared.parts.Format.{Format}
 
 -- what was read of a text: its format, the number of requests that it says, and the machine
 pub record Written : Type 0 where

@@ -11,7 +11,9 @@ use Rattle.hog_value.specs.Meters.{max_turns, max_units, max_depth}
 use Rattle.hog_meaning.specs.Meaning.{is_request, most_requests}
 use Rattle.vm_course.specs.State.{Upvalue, Opened, Closed, Frame, ThrowFrame, Running, Waiting, Ended, Mode, State, function_at}
 use Rattle.vm_course.specs.Run.{RunState}
-use Rattle.vm_state.specs.Saved.{Format, First, Second, Written, requests_in, ended_with, is_memory, is_fetches}
+use Rattle.vm_state.specs.declared.parts.Format.{Format}
+use Rattle.vm_state.specs.declared.parts.Format.TheVariants.{First, Second}
+use Rattle.vm_state.specs.Saved.{Written, requests_in, ended_with, is_memory, is_fetches}
 
 -- a value that names a cell names one that is there
 abbrev pub names : ℕ → Val → Bool

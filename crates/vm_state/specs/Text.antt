@@ -7,7 +7,9 @@ use Rattle.hog_ops.specs.Plain.{Ops}
 use Rattle.vm_state.specs.declared.stop.StateStop.{StateStop}
 use Rattle.vm_state.specs.declared.stop.StateStop.TheVariants as stops
 use Rattle.vm_course.specs.Run.{RunState}
-use Rattle.vm_state.specs.Saved.{Format, Second, Written}
+use Rattle.vm_state.specs.declared.parts.Format.{Format}
+use Rattle.vm_state.specs.declared.parts.Format.TheVariants.{Second}
+use Rattle.vm_state.specs.Saved.{Written}
 use Rattle.vm_state.specs.Layout.{written_in, saved_data}
 use Rattle.vm_state.specs.Tests.{is_written}
 use Rattle.vm_course.specs.Belongs.{belongs}

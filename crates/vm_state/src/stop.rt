@@ -1,5 +1,7 @@
 //! Why bytes are no machine of a code.
 
+use std::alloc::AllocError;
+
 /// Why bytes are not the saved state of a machine of a code. The first that holds is answered.
 #[derive(Clone, Copy, Debug, PartialEq, Eq)]
 pub enum StateStop {
@@ -12,4 +14,15 @@ pub enum StateStop {
     /// The bytes aren't the one text of that state in their format.
     NotCanonical,
     OutOfMemory,
+}
+
+impl From<AllocError> for StateStop {
+    ghost use Rattle.std.specs.Prelude.{◌≡◌};
+    ghost use Rattle.vm_state.specs.declared.stop.StateStop.TheVariants.{OutOfMemory};
+
+    ghost from_gives = { λ _ e. e ≡ OutOfMemory };
+
+    fn from(_want: AllocError) -> StateStop {
+        StateStop::OutOfMemory
+    }
 }

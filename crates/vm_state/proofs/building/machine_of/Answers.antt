@@ -1,0 +1,26 @@
+use Rattle.std.proofs.Common.{refl, arith}
+use Rattle.vm_state.proofs.Built.{holds, fit_made, standing_made, modes, is_true}
+use Rattle.vm_state.proofs.building.machine_of.Goals as goal
+
+pub from_cells-heap-requires : goal.from_cells-heap-requires
+from_cells-heap-requires c = (holds c.args.p c.requires.state c.requires.ranged).sound
+
+pub from_list-requires-clause-apart : goal.from_list-requires-clause-apart
+from_list-requires-clause-apart c = is_true _ (holds c.args.p c.requires.state c.requires.ranged).differ
+
+pub split-around-requires-clause-some : goal.split-around-requires-clause-some
+split-around-requires-clause-some c = (holds c.args.p c.requires.state c.requires.ranged).some
+
+pub split-around-requires-clause-few : goal.split-around-requires-clause-few
+split-around-requires-clause-few c = (holds c.args.p c.requires.state c.requires.ranged).few
+
+pub invariant_of-meter : goal.invariant_of-meter
+invariant_of-meter c = let h = holds c.args.p c.requires.state c.requires.ranged in (h.turns, h.units, omega arith)
+
+pub from_parts-requires-clause-fit : goal.from_parts-requires-clause-fit
+from_parts-requires-clause-fit c =
+    fit_made c.args.p _ (holds c.args.p c.requires.state c.requires.ranged) c.in_ok-stack.ensures c.in_ok-upvalues.ensures c.from_cells-heap.ensures refl
+
+pub from_parts-requires-clause-standing : goal.from_parts-requires-clause-standing
+from_parts-requires-clause-standing c =
+    standing_made c.args.p _ (holds c.args.p c.requires.state c.requires.ranged) refl c.from_cells-heap.ensures (modes c.args.p.waiting c.args.p.end) c.new.ensures
