@@ -72,7 +72,11 @@ impl Json for ThrowFrame {
     }
 
     fn write(&self, alloc: Global) -> Result<Value, AllocError> {
-        Ok(list_value(vec![in alloc; number(self.frames), number(self.height), number(self.catch)]?))
+        Ok(list_value(vec![in alloc;
+            number(self.frames),
+            number(self.height),
+            number(self.catch),
+        ]?))
     }
 }
 

@@ -68,10 +68,7 @@ pub fn read_upvalues(alloc: Global, v: &serde_json::Value) -> Result<Vec<Upvalue
 }
 
 /// Each of the items, an upvalue.
-fn read_all_upvalues(
-    alloc: Global,
-    items: &[serde_json::Value],
-) -> Result<Vec<Upvalue>, ReadStop>
+fn read_all_upvalues(alloc: Global, items: &[serde_json::Value]) -> Result<Vec<Upvalue>, ReadStop>
     ensures gives { Gives (λ us. map upvalue_of us.items) result (each upvalue_in (map view items.now)) }
     ensures ranged { IfOk result (λ us. AllByRecursion UpvalueFits (map upvalue_of us.items)) }
 {
@@ -86,10 +83,7 @@ fn read_all_upvalues(
 }
 
 /// The array of the forms of upvalues.
-pub fn write_upvalues(
-    alloc: Global,
-    upvalues: &[Upvalue],
-) -> Result<serde_json::Value, AllocError>
+pub fn write_upvalues(alloc: Global, upvalues: &[Upvalue]) -> Result<serde_json::Value, AllocError>
     ensures form { IfOk result (λ v. view v ≡ list (map upvalue_data (map upvalue_of upvalues.now))) }
     ensures ranged { IfOk result (λ _. AllByRecursion UpvalueFits (map upvalue_of upvalues.now)) }
 {

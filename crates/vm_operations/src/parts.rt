@@ -73,13 +73,6 @@ impl Machine {
         self.globals
     }
 
-    /// The turns that were spent. Takes no memory.
-    pub fn turns(&self) -> u32
-        ensures { result ≡ self.now.run.state.turns }
-    {
-        self.state.meter.turns
-    }
-
     /// The units of memory that were spent. Takes no memory.
     pub fn units(&self) -> u32
         ensures { result ≡ self.now.run.state.units }

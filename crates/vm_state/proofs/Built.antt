@@ -116,7 +116,7 @@ holds p e fits =
     let few = frames_few cells height p.calls.frames.items frames.0 in
     let named = both (list_all (names count) p.calls.stack.items) (list_all (λ cell. cell_stands count (length p.held.upvalues.items) (cell_of cell)) p.held.cells.items) third.1 in
     let standing : list_all (cell_stands count (length p.held.upvalues.items)) cells ≡ true =
-        list_all-map (cell_stands count (length p.held.upvalues.items)) cell_of p.held.cells.items ∙ named.1 in record {
+    list_all-map (cell_stands count (length p.held.upvalues.items)) cell_of p.held.cells.items ∙ named.1 in record {
       turns = within p.counts.turns max_turns spent.0;
       units = within p.counts.units max_units spent.1;
       covered = within (8 * count) p.counts.units covered.1;

@@ -41,8 +41,12 @@ pub is_held : (p : Parts) → is_state (state_of p) ≡ (parts_hold p && upvalue
 is_held p =
     rw (
       parted (state_of p),
-      reverse-reverse p.calls.stack.items, reverse-reverse p.calls.frames.items, reverse-reverse p.calls.throws.items,
-      length-reverse p.calls.stack.items, length-map p.held.cells.items cell_of, length-map p.held.upvalues.items upvalue_of,
+      reverse-reverse p.calls.stack.items,
+      reverse-reverse p.calls.frames.items,
+      reverse-reverse p.calls.throws.items,
+      length-reverse p.calls.stack.items,
+      length-map p.held.cells.items cell_of,
+      length-map p.held.upvalues.items upvalue_of,
       list_all-map (cell_stands (length p.held.cells.items) (length p.held.upvalues.items)) cell_of p.held.cells.items,
     ) refl
 

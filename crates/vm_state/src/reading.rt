@@ -21,12 +21,7 @@ use state_forms::values::read_cells;
 use std::alloc::Global;
 
 #[tactic(auto, unfolding(crate::specs::Layout::counts_in))]
-fn read_counts(
-    ops: &Value,
-    turns: &Value,
-    units: &Value,
-    used: &Value,
-) -> Result<Counts, ReadStop>
+fn read_counts(ops: &Value, turns: &Value, units: &Value, used: &Value) -> Result<Counts, ReadStop>
     ensures { Gives counts_of result (counts_in (view ops.now) (view turns.now) (view units.now) (view used.now)) }
 {
     let ops = number_u64(ops)?;
@@ -61,12 +56,7 @@ fn read_calls(
 }
 
 #[tactic(auto, unfolding(crate::specs::Layout::held_in))]
-fn read_held(
-    alloc: Global,
-    upvalues: &Value,
-    heap: &Value,
-    trace: &Value,
-) -> Result<Held, ReadStop>
+fn read_held(alloc: Global, upvalues: &Value, heap: &Value, trace: &Value) -> Result<Held, ReadStop>
     ensures gives { Gives held_of result (held_in (view upvalues.now) (view heap.now) (view trace.now)) }
     ensures ranged { IfOk result (λ h. AllByRecursion CellFits (map cell_of h.cells.items)) }
 {

@@ -87,12 +87,7 @@ fn load_same(alloc: Global, w: Written, bytes: &[u8]) -> Result<Machine, StateSt
 }
 
 /// The machine that was read, where it belongs to the code of a table.
-fn load_state(
-    alloc: Global,
-    table: &Table,
-    w: Written,
-    bytes: &[u8],
-) -> Result<Machine, StateStop>
+fn load_state(alloc: Global, table: &Table, w: Written, bytes: &[u8]) -> Result<Machine, StateStop>
     requires state { is_state (state_of w.parts) ≡ true }
     requires ranged { AllByRecursion CellFits (map cell_of w.parts.held.cells.items) }
     ensures exact { (code : Ops) → table.now ≡ reading_of code → Answers (λ m. m.run) result (of_written code bytes.now (Some (written_of w))) }
@@ -107,12 +102,7 @@ fn load_state(
 }
 
 /// The machine of a JSON value.
-fn load_value(
-    alloc: Global,
-    table: &Table,
-    v: &Value,
-    bytes: &[u8],
-) -> Result<Machine, StateStop>
+fn load_value(alloc: Global, table: &Table, v: &Value, bytes: &[u8]) -> Result<Machine, StateStop>
     ensures exact { (code : Ops) → table.now ≡ reading_of code → Answers (λ m. m.run) result (of_written code bytes.now (state_in (view v.now))) }
     ensures fits { IfOk result (λ m. SavedFits m.run) }
     ensures fresh { IfOk result (λ m. m.spent ≡ false) }

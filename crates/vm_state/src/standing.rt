@@ -152,13 +152,7 @@ fn lands(frames: &[Frame], height: usize, t: &ThrowFrame) -> bool
 }
 
 /// Whether a throw frame stands behind one of so many frames and such a height. Takes no memory.
-fn throw_stands(
-    frames: &[Frame],
-    height: usize,
-    fewest: u32,
-    lowest: u32,
-    t: &ThrowFrame,
-) -> bool
+fn throw_stands(frames: &[Frame], height: usize, fewest: u32, lowest: u32, t: &ThrowFrame) -> bool
     ensures { result ≡ throw_stands frames.now height fewest lowest t.now }
 {
     lands(frames, height, t) && fewest <= t.frames && lowest <= t.height
@@ -343,7 +337,8 @@ pub fn written_stands(alloc: Global, w: &Written) -> Result<bool, AllocError>
     ensures { IfOk result (λ b. b ≡ is_written (written_of w.now)) }
 {
     let p = &w.parts;
-    if w.asked != requests_in(p.held.trace.as_slice()) || !format_stands(w.format, p.waiting, &p.end)
+    if w.asked != requests_in(p.held.trace.as_slice())
+        || !format_stands(w.format, p.waiting, &p.end)
     {
         return Ok(false);
     }

@@ -135,13 +135,7 @@ fn first(alloc: Global, name: Value, n: &Counts, f: Forms) -> Result<Value, Allo
 }
 
 /// The array of a state in the second format, which has the number of requests too.
-fn second(
-    alloc: Global,
-    name: Value,
-    n: &Counts,
-    asked: u64,
-    f: Forms,
-) -> Result<Value, AllocError>
+fn second(alloc: Global, name: Value, n: &Counts, asked: u64, f: Forms) -> Result<Value, AllocError>
     ensures { IfOk result (λ v. view v ≡ list (view name ∷ number_data 2 ∷ counts_shown n.now ++ number_data asked ∷ forms_shown f)) }
 {
     Ok(list_value(vec![in alloc;

@@ -15,7 +15,7 @@ loop-upvalue-preserved c =
     let x = get_or xs i (Opened 0) in
     let seen = map upvalue_of (take i xs) in
     let more : map upvalue_of (take (i + 1) xs) ≡ seen ++ upvalue_of x ∷ [] =
-        ap (map upvalue_of) (take_more xs i (Opened 0) c.loop-upvalue-test.true) ∙ map-append upvalue_of (take i xs) (x ∷ []) in record {
+    ap (map upvalue_of) (take_more xs i (Opened 0) c.loop-upvalue-test.true) ∙ map-append upvalue_of (take i xs) (x ∷ []) in record {
       form =
           ap (map view) c.in_ok-push.ensures.items
           ∙ one_more view upvalue_data c.loop-upvalue.written.items seen c.in_ok-write_upvalue.field-0 (upvalue_of x) c.loop-upvalue.invariant.form c.in_ok-write_upvalue.ensures.form
