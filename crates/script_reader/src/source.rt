@@ -8,8 +8,8 @@ ghost use Rattle.script_reader.specs.Steps.{Builds};
 
 use crate::step::{SourceStop, Step};
 use hog_program::{BuildStop, read_whole};
-use hog_value::HogText;
 use hog_sums::sums::is_sums;
+use hog_value::HogText;
 use std::alloc::{AllocError, Global};
 
 /// Why a source is not taken, if it isn't.

@@ -13,13 +13,13 @@ use cyclotron_jobs::lease::{Advance, Lease};
 use cyclotron_jobs::row::{After, QueueName};
 use hog_program::laws::{built_or_unbuilt, one_whole};
 use hog_program::{BuildStop, read_whole};
+use hog_sums::code::Code;
+use hog_sums::compile::compile;
+use hog_sums::machine::{Machine, Pause};
 use hog_tree::tree::Tree;
 use hog_value::items::Bytes;
 use hog_value::text::HogText;
 use hog_value::trace::Shown;
-use hog_sums::code::Code;
-use hog_sums::compile::compile;
-use hog_sums::machine::{Machine, Pause};
 use std::alloc::{AllocError, Global};
 use std::marker::PhantomData;
 
