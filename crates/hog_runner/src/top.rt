@@ -30,7 +30,7 @@ use hog_printer::print_tree;
 use hog_program::laws::{built_or_unbuilt, program_or_none};
 use hog_program::{BuildStop, evaluate};
 use hog_tree::tree::Tree;
-use hog_value::{HogText, TextStop};
+use hog_value::HogText;
 use hogvm::StartStop;
 use job_keeper::Keeper;
 use line_writer::{OutputStop, write_line, write_run, write_whole};
@@ -394,11 +394,7 @@ fn evaluated(alloc: Global, program: &Tree) -> Result<Machine, AllocError>
 fn no_globals(alloc: Global) -> Result<HogText, AllocError>
     ensures { IfOk result (λ text. text ≡ codes "{}") }
 {
-    match HogText::from_bytes(alloc, b"{}") {
-        Ok(text) => Ok(text),
-        Err(TextStop::OutOfMemory) => Err(AllocError),
-        Err(TextStop::NotUtf8 { at: _ }) => unreachable!(),
-    }
+    Ok(HogText::from_string(String::from_str(alloc, "{}")?))
 }
 
 /// Runs a program, and writes what it shows.
