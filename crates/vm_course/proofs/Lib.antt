@@ -5,4 +5,4 @@ mod CodesMoves
 mod CodesGrow
 pub mod CodesBelong
 mod OnCourseReplies
-mod OnCourseRuns
+pub mod OnCourseRuns

@@ -1,5 +1,6 @@
 -- A run by slices and replies is the machine's course.
-use Rattle.std.proofs.Common.{◌≡◌, ℕ, zero, suc, ◌+◌, ◌-◌, List, [], ◌∷◌, ◌++◌, length, Some, Bool, true, false, cond, refl, sym, ap, ◌∙◌, subst, arith}
+use Rattle.std.proofs.Common.{◌≡◌, ℕ, zero, suc, ◌+◌, ◌-◌, List, [], ◌∷◌, ◌++◌, length, Some, Bool, true, false, cond, refl, sym, ap, ◌∙◌, subst, arith, ⊎_elim}
+use Rattle.std.proofs.lemmas.Bool.{cases_lt}
 use Rattle.std.specs.Prelude.{drop, slice_get, nat_le}
 use Rattle.serde_json.specs.Data.{Data, null, boolean, number, string, array, object, Items, no_items, item, Members, no_members, member}
 use Rattle.hog_value.specs.declared.cell.FunCell.{FunCell}
@@ -18,7 +19,7 @@ use Rattle.vm_course.specs.State.{Slot, code_slots, Running, Waiting, Ended, Mod
 use Rattle.vm_course.specs.Stack.{push}
 use Rattle.vm_course.specs.Throws.{on_outcome}
 use Rattle.vm_course.specs.Step.{step, step_in, take_reply}
-use Rattle.vm_course.specs.Course.{literals_of_code, started, fixed_by, steps, machine}
+use Rattle.vm_course.specs.Course.{literals_of_code, started, fixed_by, steps, machine, IsOver, is_over_in, IsDefined}
 use Rattle.vm_course.specs.Run.{RunState, globals_cell, begun_with, fixed_of, one_more, where_running, run_for, with_replies, IsRunOf}
 use Rattle.vm_course.specs.Laws.{BeginsOnCourse, SlicesOnCourse, RepliesOnCourse}
 use Rattle.vm_course.proofs.OnCourseReplies.{step_same, step_leaves}
@@ -45,6 +46,23 @@ next code globals replies r is =
     ∙ one_after (fixed_by (literals_of_code code) cells) (code_slots code) (r.ops - 1) (started replies cells)
     ∙ ap (λ x. step x (code_slots code) (machine code globals replies (r.ops - 1))) (fixed_same code cells ∙ ap (fixed_of code) (sym is.cell))
 
+-- one operation more is defined where the machine was not over
+
+runs_on : (s : State) → s.mode ≡ Running → IsOver s → ⊥
+runs_on s e over = subst (λ m. is_over_in m s.replies) e over
+
+waits_on : (s : State) (reply : Reply) (rest : List Reply) → s.mode ≡ Waiting → s.replies ≡ reply ∷ rest → IsOver s → ⊥
+waits_on s reply rest e f over = subst (is_over_in Waiting) f (subst (λ m. is_over_in m s.replies) e over)
+
+still_defined : (code : Ops) (globals : List ℕ) (replies : List Reply) (r : RunState) → IsRunOf code globals replies r → (IsOver (with_replies (drop r.used replies) r.state) → ⊥) → IsDefined code globals replies (r.ops + 1)
+still_defined code globals replies r is on j lt over =
+    let begun = is.begun in
+    ⊎_elim (λ before. is.defined j before over)
+    (λ last.
+    let at : j ≡ r.ops - 1 = omega (arith, lt, last) in
+    on (subst IsOver (ap (machine code globals replies) at ∙ sym is.state) over))
+    (cases_lt (suc j) r.ops)
+
 -- beginning
 
 begins : (replies : List Reply) (cells : Outcome FunCell Val) → with_replies replies (begun_with cells).state ≡ started replies cells
@@ -63,6 +81,7 @@ begins_on_course code globals replies = record {
   begun = omega arith;
   cell = refl;
   state = begins replies (first_cells (literals_of_code code) globals);
+  defined = λ j lt over. absurd (omega (arith, lt));
   none_left = none_begun (first_cells (literals_of_code code) globals);
 }
 
@@ -76,6 +95,7 @@ goes_on code globals replies r running is = record {
       sym (step_same (drop r.used replies) (fixed_of code r.globals) (code_slots code) r.state running)
       ∙ ap (step (fixed_of code r.globals) (code_slots code)) is.state
       ∙ sym (next code globals replies r is);
+  defined = still_defined code globals replies r is (runs_on (with_replies (drop r.used replies) r.state) running);
   none_left = step_leaves (fixed_of code r.globals) (code_slots code) r.state running ∙ is.none_left;
 }
 
@@ -180,5 +200,6 @@ replies_on_course code globals replies reply r is waiting there =
           ∙ sym (waits_for_one (fixed_of code r.globals) (code_slots code) s reply rest waiting first)
           ∙ ap (step (fixed_of code r.globals) (code_slots code)) is.state
           ∙ sym (next code globals replies r is);
+      defined = still_defined code globals replies r is (waits_on s reply rest waiting first);
       none_left = none_taken o r.state un is.none_left;
     }

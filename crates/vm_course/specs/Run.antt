@@ -9,7 +9,7 @@ use Rattle.hog_meaning.specs.Program.{first_cells}
 use Rattle.hog_meaning.specs.World.{Fixed, Reply}
 use Rattle.vm_course.specs.State.{code_slots, Running, Waiting, Ended, Mode, State}
 use Rattle.vm_course.specs.Step.{step, take_reply}
-use Rattle.vm_course.specs.Course.{literals_of_code, started, machine}
+use Rattle.vm_course.specs.Course.{literals_of_code, started, machine, IsDefined}
 
 -- How many operations were done, the start counted; how many replies were taken in; the cell of the globals, which there is
 -- none of where the run ended in its first operation; and the state. Replies that are to come are no part of a run.
@@ -63,9 +63,10 @@ abbrev pub with_replies : List Reply → State → State
 with_replies replies s = record s { replies = replies }
 
 -- The run is that of a code on globals and replies, of which it has taken in the first: with the others still to come, its
--- state is the machine's after as many operations.
+-- state is the machine's after as many operations, and it went past no end, nor past a wait at which all replies were used.
 pub record IsRunOf (code : Ops) (globals : List ℕ) (replies : List Reply) (r : RunState) : Type 0 where
   pub begun : 1 ≤ r.ops
   pub cell : r.globals ≡ globals_cell (first_cells (literals_of_code code) globals)
   pub state : with_replies (drop r.used replies) r.state ≡ machine code globals replies (r.ops - 1)
+  pub defined : IsDefined code globals replies r.ops
   pub none_left : r.state.replies ≡ []
