@@ -8,5 +8,7 @@
 mod slice;
 mod start;
 pub mod steps;
+#[cfg(test)]
+mod tests;
 
 pub use steps::{Pause, StartStop, Steps};
