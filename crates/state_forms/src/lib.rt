@@ -9,6 +9,8 @@ pub mod calls;
 pub mod forms;
 pub mod shown;
 pub mod stop;
+#[cfg(test)]
+mod tests;
 pub mod upvalues;
 pub mod values;
 

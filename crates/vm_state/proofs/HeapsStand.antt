@@ -1,8 +1,9 @@
 -- Heaps in which values name cells, functions' upvalues are there, and for whose cells enough units are spent; what makes cells
 -- keeps them so.
-use Rattle.std.proofs.Common.{◌≡◌, ℕ, zero, suc, ◌+◌, ◌*◌, ◌<◌, ◌≤◌, List, [], ◌∷◌, ◌++◌, length, length-append, Option, Some, None, Bool, true, false, cond, refl, arith}
-use Rattle.std.specs.Prelude.{ℤ, nat_le, slice_get, option_and_then, option_map, unwrap_or, is_some, codes}
-use Rattle.std.specs.List.{AllByRecursion}
+use Rattle.std.proofs.Common.{◌≡◌, ℕ, zero, suc, ◌+◌, ◌*◌, ◌<◌, ◌≤◌, List, [], ◌∷◌, ◌++◌, length, length-append, Option, Some, None, Bool, true, false, cond, refl, sym, ap, subst, arith}
+use Rattle.std.specs.Prelude.{ℤ, nat_le, slice_get, option_and_then, option_map, unwrap_or, is_some, codes, bytes_eq}
+use Rattle.std.specs.List.{AllByRecursion, IsDistinct}
+use Rattle.std.specs.Map.{keys_of}
 use Rattle.std.proofs.lemmas.Bool.{leb-true}
 use Rattle.serde_json.specs.Data.{Num, Data, null, boolean, number, string, array, object, Items, no_items, item, Members, no_members, member}
 use Rattle.serde_json.specs.Find.{as_i64}
@@ -16,14 +17,15 @@ use Rattle.hog_value.specs.Cells.{CellOf, Text, Array, Dict, Fun, HeapOf, cost_o
 use Rattle.hog_value.specs.Operations as op
 use Rattle.hog_value.specs.Operations.{Outcome, made}
 use Rattle.hog_json.specs.Reading.{outcome_and_then, number_read, read_cells, read_items, read_members, cells_of_read, json_cells, kept_value}
-use Rattle.hog_library.specs.Cells.{texts_made, array_of_texts, error_cell, kind_name, kind_message, thrown, response_cell, response, blocked}
+use Rattle.hog_library.specs.Cells.{texts_made, array_of_texts, error_cell, error_pairs, kind_name, kind_message, thrown, response_pairs, response_cell, response, blocked}
 use Rattle.vm_course.specs.State.{function_at, function_in}
 use Rattle.vm_state.proofs.Alls.{all_last, all_if}
+use Rattle.vm_state.proofs.KeysApart.{KeysDiffer, InOrder, ItemsInOrder, MembersInOrder, read_in_order, kept_in_order, keys_in, keys_apart}
 
 abbrev pub CellStands : ℕ → ℕ → CellOf FunCell → Type 0
 CellStands cells upvalues (Text t) = Unit {0}
 CellStands cells upvalues (Array vs) = AllByRecursion (NamesBelow cells) vs
-CellStands cells upvalues (Dict ps) = AllByRecursion (λ p. NamesBelow cells p.1) ps
+CellStands cells upvalues (Dict ps) = AllByRecursion (λ p. NamesBelow cells p.1) ps × KeysDiffer ps
 CellStands cells upvalues (Fun f) = AllByRecursion (λ n. n < upvalues) f.captured
 
 pub record HeapStands (upvalues : ℕ) (h : HeapOf FunCell) (units : ℕ) : Type 0 where
@@ -72,7 +74,7 @@ all_names_more m n vs le h = all_if (NamesBelow m) (NamesBelow n) (λ v k. names
 cell_more : (m n u w : ℕ) (c : CellOf FunCell) → m ≤ n → u ≤ w → CellStands m u c → CellStands n w c
 cell_more m n u w (Text t) le up h = tt
 cell_more m n u w (Array vs) le up h = all_names_more m n vs le h
-cell_more m n u w (Dict ps) le up h = all_if (λ p. NamesBelow m p.1) (λ p. NamesBelow n p.1) (λ p k. names_more m n p.1 le k) ps h
+cell_more m n u w (Dict ps) le up h = (all_if (λ p. NamesBelow m p.1) (λ p. NamesBelow n p.1) (λ p k. names_more m n p.1 le k) ps h.0, h.1)
 cell_more m n u w (Fun f) le up h = all_if (λ k. k < u) (λ k. k < w) (λ k lt. omega (arith, lt, up)) f.captured h
 
 pub cells_more : (m n u w : ℕ) (h : HeapOf FunCell) → m ≤ n → u ≤ w → AllByRecursion (CellStands m u) h → AllByRecursion (CellStands n w) h
@@ -100,6 +102,10 @@ AllNamed n vs = AllByRecursion (NamesBelow n) vs
 
 abbrev pub PairsNamed : ℕ → List (List ℕ × Val) → Type 0
 PairsNamed n ps = AllByRecursion (λ p. NamesBelow n p.1) ps
+
+-- pairs with these keys, in order
+abbrev pub PairsOf : List (List ℕ) → ℕ → List (List ℕ × Val) → Type 0
+PairsOf keys n ps = PairsNamed n ps × (keys_of ps ≡ keys)
 
 module _ (u : ℕ) where
   pub same_stands : {A : Type 0} (Q : ℕ → A → Type 0) (a : A) (h : HeapOf FunCell) (units : ℕ) → HeapStands u h units → Q (length h) a → Stands Q u h (op.Gives a h units)
@@ -155,39 +161,39 @@ module _ (u : ℕ) where
       go None = tt
 
   mutual
-    pub cells_stand : (d : Data) (h : HeapOf FunCell) (units : ℕ) → HeapStands u h units → Stands Named u h (read_cells d h units)
-    cells_stand null h units s = same_stands Named Null h units s tt
-    cells_stand (boolean b) h units s = same_stands Named (Truth b) h units s tt
-    cells_stand (number n) h units s = same_stands Named (number_read n) h units s (number_named (length h) n)
-    cells_stand (string t) h units s = made_stands (Text t) h units s tt
-    cells_stand (array ds) h units s =
-        both_stand AllNamed Named h (read_items ds h units) (λ vs. made (Array vs)) (items_stand ds h units s)
+    pub cells_stand : (d : Data) (h : HeapOf FunCell) (units : ℕ) → InOrder d → HeapStands u h units → Stands Named u h (read_cells d h units)
+    cells_stand null h units o s = same_stands Named Null h units s tt
+    cells_stand (boolean b) h units o s = same_stands Named (Truth b) h units s tt
+    cells_stand (number n) h units o s = same_stands Named (number_read n) h units s (number_named (length h) n)
+    cells_stand (string t) h units o s = made_stands (Text t) h units s tt
+    cells_stand (array ds) h units o s =
+        both_stand AllNamed Named h (read_items ds h units) (λ vs. made (Array vs)) (items_stand ds h units o s)
         (λ vs h1 units1 s1 le q. made_stands (Array vs) h1 units1 s1 q)
-    cells_stand (object ms) h units s =
-        both_stand PairsNamed Named h (read_members ms h units) (λ ps. made (Dict ps)) (members_stand ms h units s)
-        (λ ps h1 units1 s1 le q. made_stands (Dict ps) h1 units1 s1 q)
+    cells_stand (object ms) h units o s =
+        both_stand (PairsOf (keys_in ms)) Named h (read_members ms h units) (λ ps. made (Dict ps)) (members_stand ms h units o s)
+        (λ ps h1 units1 s1 le q. made_stands (Dict ps) h1 units1 s1 (q.0, subst (IsDistinct bytes_eq) (sym q.1) (keys_apart ms o)))
 
-    items_stand : (ds : Items) (h : HeapOf FunCell) (units : ℕ) → HeapStands u h units → Stands AllNamed u h (read_items ds h units)
-    items_stand no_items h units s = same_stands AllNamed [] h units s tt
-    items_stand (item d ds) h units s =
-        both_stand Named AllNamed h (read_cells d h units) _ (cells_stand d h units s) (λ v h1 units1 s1 le q.
-        both_stand AllNamed AllNamed h1 (read_items ds h1 units1) (λ vs. op.Gives (v ∷ vs)) (items_stand ds h1 units1 s1) (λ vs h2 units2 s2 le2 qs.
+    items_stand : (ds : Items) (h : HeapOf FunCell) (units : ℕ) → ItemsInOrder ds → HeapStands u h units → Stands AllNamed u h (read_items ds h units)
+    items_stand no_items h units o s = same_stands AllNamed [] h units s tt
+    items_stand (item d ds) h units o s =
+        both_stand Named AllNamed h (read_cells d h units) _ (cells_stand d h units o.0 s) (λ v h1 units1 s1 le q.
+        both_stand AllNamed AllNamed h1 (read_items ds h1 units1) (λ vs. op.Gives (v ∷ vs)) (items_stand ds h1 units1 o.1 s1) (λ vs h2 units2 s2 le2 qs.
         same_stands AllNamed (v ∷ vs) h2 units2 s2 (names_more (length h1) (length h2) v le2 q, qs)))
 
-    pub members_stand : (ms : Members) (h : HeapOf FunCell) (units : ℕ) → HeapStands u h units → Stands PairsNamed u h (read_members ms h units)
-    members_stand no_members h units s = same_stands PairsNamed [] h units s tt
-    members_stand (member k d ms) h units s =
-        both_stand Named PairsNamed h (read_cells d h units) _ (cells_stand d h units s) (λ v h1 units1 s1 le q.
-        both_stand PairsNamed PairsNamed h1 (read_members ms h1 units1) (λ ps. op.Gives ((k, v) ∷ ps)) (members_stand ms h1 units1 s1) (λ ps h2 units2 s2 le2 qs.
-        same_stands PairsNamed ((k, v) ∷ ps) h2 units2 s2 (names_more (length h1) (length h2) v le2 q, qs)))
+    pub members_stand : (ms : Members) (h : HeapOf FunCell) (units : ℕ) → MembersInOrder ms → HeapStands u h units → Stands (PairsOf (keys_in ms)) u h (read_members ms h units)
+    members_stand no_members h units o s = same_stands (PairsOf []) [] h units s (tt, refl)
+    members_stand (member k d ms) h units o s =
+        both_stand Named (PairsOf (k ∷ keys_in ms)) h (read_cells d h units) _ (cells_stand d h units o.1 s) (λ v h1 units1 s1 le q.
+        both_stand (PairsOf (keys_in ms)) (PairsOf (k ∷ keys_in ms)) h1 (read_members ms h1 units1) (λ ps. op.Gives ((k, v) ∷ ps)) (members_stand ms h1 units1 o.2 s1) (λ ps h2 units2 s2 le2 qs.
+        same_stands (PairsOf (k ∷ keys_in ms)) ((k, v) ∷ ps) h2 units2 s2 ((names_more (length h1) (length h2) v le2 q, qs.0), ap (λ ks. k ∷ ks) qs.1)))
 
   pub json_stands : (t : List ℕ) (h : HeapOf FunCell) (units : ℕ) → HeapStands u h units → Stands Named u h (json_cells t h units)
   unfolding json_cells
-  json_stands t h units s = go (read t)
+  json_stands t h units s = go (read t) (λ d. read_in_order t d)
     where
-      go : (o : Option Data) → Stands Named u h (cells_of_read o h units)
-      go None = tt
-      go (Some d) = cells_stand d h units s
+      go : (o : Option Data) → ((d : Data) → o ≡ Some d → InOrder d) → Stands Named u h (cells_of_read o h units)
+      go None order = tt
+      go (Some d) order = cells_stand d h units (order d refl) s
 
   -- texts, what is thrown, responses
 
@@ -203,9 +209,17 @@ module _ (u : ℕ) where
   array_stands ts h units s =
       both_stand AllNamed Named h (texts_made ts h units) (λ vs. made (Array vs)) (texts_stand ts h units s) (λ vs h1 units1 s1 le q. made_stands (Array vs) h1 units1 s1 q)
 
+  error_keys : (name message payload : Val) → KeysDiffer (error_pairs name message payload)
+  unfolding IsDistinct
+  error_keys name message payload = ((refl, (refl, tt)), ((refl, tt), (tt, tt)))
+
+  response_keys : (status : ℕ) (v : Val) → KeysDiffer (response_pairs status v)
+  unfolding IsDistinct
+  response_keys status v = ((refl, tt), (tt, tt))
+
   pub error_stands : (name message payload : Val) (h : HeapOf FunCell) (units : ℕ) → HeapStands u h units → NamesBelow (length h) name → NamesBelow (length h) message → NamesBelow (length h) payload
       → Stands Named u h (made (error_cell name message payload) h units)
-  error_stands name message payload h units s a b c = made_stands (error_cell name message payload) h units s (a, (b, (c, tt)))
+  error_stands name message payload h units s a b c = made_stands (error_cell name message payload) h units s ((a, (b, (c, tt))), error_keys name message payload)
 
   pub thrown_stands : (kind : Kind) (h : HeapOf FunCell) (units : ℕ) → HeapStands u h units → Stands Named u h (thrown kind h units)
   unfolding thrown
@@ -215,12 +229,12 @@ module _ (u : ℕ) where
       (λ message h2 units2 s2 le2 q2. error_stands name message Null h2 units2 s2 (names_more (length h1) (length h2) name le2 q) q2 tt))
 
   response_made : (status : ℕ) (v : Val) (h : HeapOf FunCell) (units : ℕ) → HeapStands u h units → NamesBelow (length h) v → Stands Named u h (made (response_cell status v) h units)
-  response_made status v h units s q = made_stands (response_cell status v) h units s (tt, (q, tt))
+  response_made status v h units s q = made_stands (response_cell status v) h units s ((tt, (q, tt)), response_keys status v)
 
   pub response_stands : (status : ℕ) (body : List ℕ) (h : HeapOf FunCell) (units : ℕ) → HeapStands u h units → Stands Named u h (response status body h units)
   unfolding response
   response_stands status body h units s =
-      both_stand Named Named h (read_cells (kept_value body) h units) (λ v. made (response_cell status v)) (cells_stand (kept_value body) h units s)
+      both_stand Named Named h (read_cells (kept_value body) h units) (λ v. made (response_cell status v)) (cells_stand (kept_value body) h units (kept_in_order body) s)
       (λ v h1 units1 s1 le q. response_made status v h1 units1 s1 q)
 
   pub blocked_stands : (h : HeapOf FunCell) (units : ℕ) → HeapStands u h units → Stands Named u h (blocked h units)

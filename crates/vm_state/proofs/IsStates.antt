@@ -38,7 +38,7 @@ value_passes n (Ref r) h = lt-ltb r n h
 cell_passes : (n u : ℕ) (c : CellOf FunCell) → CellStands n u c → cell_stands n u c ≡ true
 cell_passes n u (Text t) h = refl
 cell_passes n u (Array vs) h = all_tested (NamesBelow n) (names n) (value_passes n) vs h
-cell_passes n u (Dict ps) h = all_tested (λ p. NamesBelow n p.1) (λ p. names n p.1) (λ p k. value_passes n p.1 k) ps h
+cell_passes n u (Dict ps) h = all_tested (λ p. NamesBelow n p.1) (λ p. names n p.1) (λ p k. value_passes n p.1 k) ps h.0
 cell_passes n u (Fun f) h = all_tested (λ k. k < u) (λ k. nat_lt k u) (λ k lt. lt-ltb k u lt) f.captured h
 
 -- the places before are not those of these upvalues

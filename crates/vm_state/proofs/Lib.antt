@@ -10,6 +10,7 @@ pub mod Built
 pub mod Exact
 pub mod Formats
 mod Alls
+mod KeysApart
 mod HeapsStand
 mod NativesStand
 mod OperatorsStand

@@ -49,7 +49,7 @@ items_in n u (Fun f) vs s e = absurd cc
 values_in : (n u : ℕ) (c : CellOf FunCell) (vs : List Val) → CellStands n u c → values_of_cell c ≡ Some vs → AllByRecursion (NamesBelow n) vs
 values_in n u (Text t) vs s e = absurd cc
 values_in n u (Array ws) vs s e = let same : ws ≡ vs = cc in subst (AllByRecursion (NamesBelow n)) same s
-values_in n u (Dict ps) vs s e = let same : map (λ p. p.1) ps ≡ vs = cc in subst (AllByRecursion (NamesBelow n)) same (all_map (λ p. p.1) (λ p. NamesBelow n p.1) (NamesBelow n) (λ p k. k) ps s)
+values_in n u (Dict ps) vs s e = let same : map (λ p. p.1) ps ≡ vs = cc in subst (AllByRecursion (NamesBelow n)) same (all_map (λ p. p.1) (λ p. NamesBelow n p.1) (NamesBelow n) (λ p k. k) ps s.0)
 values_in n u (Fun f) vs s e = absurd cc
 
 both_some : {A B : Type 0} (o : Option A) (f : A → Option B) (b : B) → option_and_then f o ≡ Some b → (a : A) × (o ≡ Some a) × (f a ≡ Some b)

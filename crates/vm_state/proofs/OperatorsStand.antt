@@ -22,6 +22,7 @@ use Rattle.hog_meaning.specs.Operators.{in_range, checked, computed, tested, com
 use Rattle.hog_meaning.specs.Operators as operators
 use Rattle.vm_course.specs.State.{function_in}
 use Rattle.vm_state.proofs.Alls.{all_last, all_at, all_or, all_set}
+use Rattle.vm_state.proofs.KeysApart.{KeysDiffer, no_keys, keys_differ_with}
 use Rattle.vm_state.proofs.HeapsStand.{CellStands, HeapStands, Keeps, Given, Stands, Named, AllNamed, PairsNamed, made_stands}
 
 abbrev pub ResultNamed : ℕ → Result Val Kind → Type 0
@@ -97,7 +98,7 @@ items_named n u (Fun f) h = tt
 pairs_named : (n u : ℕ) (c : CellOf FunCell) → CellStands n u c → MaybePairs n (pairs_of c)
 pairs_named n u (Text t) h = tt
 pairs_named n u (Array vs) h = tt
-pairs_named n u (Dict ps) h = h
+pairs_named n u (Dict ps) h = h.0
 pairs_named n u (Fun f) h = tt
 
 items_there : (n u : ℕ) (h : HeapOf FunCell) (k : ℕ) → AllByRecursion (CellStands n u) h → MaybeItems n (items_at h k)
@@ -260,8 +261,10 @@ module _ (u : ℕ) (h : HeapOf FunCell) (units : ℕ) (s : HeapStands u h units)
       at : slice_get h n ≡ Some (Dict ps)
       at = dict_at n ps e
 
-      after : PairsNamed (length h) (insert_entry bytes_eq ps key v)
-      after = inserted (length h) ps key v (all_at (CellStands (length h) u) h n (Dict ps) s.cells at) q
+      after : PairsNamed (length h) (insert_entry bytes_eq ps key v) × KeysDiffer (insert_entry bytes_eq ps key v)
+      after =
+          let before = all_at (CellStands (length h) u) h n (Dict ps) s.cells at in
+          (inserted (length h) ps key v before.0 q, keys_differ_with ps key v before.1)
 
       go : (b : Bool) → Stands Nothing u h (let h1 = slice_set h n (Dict (insert_entry bytes_eq ps key v)) in cond b (op.Gives tt h1 units) (charged (cost_of_pair key) tt h1 units))
       go true = set_free n (Dict ps) (Dict (insert_entry bytes_eq ps key v)) at (refl, refl) after
@@ -292,12 +295,13 @@ module _ (u : ℕ) (h : HeapOf FunCell) (units : ℕ) (s : HeapStands u h units)
   -- dictionaries
 
   abbrev PairsGiven : Result (List (List ℕ × Val)) Kind → Type 0
-  PairsGiven (Ok ps) = PairsNamed (length h) ps
+  PairsGiven (Ok ps) = PairsNamed (length h) ps × KeysDiffer ps
   PairsGiven (Err kind) = Unit {0}
 
-  pairs_given : (kvs : List (Val × Val)) (ps : List (List ℕ × Val)) → AllByRecursion (λ kv. NamesBelow (length h) kv.1) kvs → PairsNamed (length h) ps → PairsGiven (operators.pairs_of h kvs ps)
-  pairs_given [] ps all named = named
-  pairs_given (kv ∷ kvs) ps all named = go (λ key. pairs_given kvs (insert_entry bytes_eq ps key kv.1) all.1 (inserted (length h) ps key kv.1 named all.0)) (named_text h kv.0)
+  pairs_given : (kvs : List (Val × Val)) (ps : List (List ℕ × Val)) → AllByRecursion (λ kv. NamesBelow (length h) kv.1) kvs → PairsNamed (length h) ps → KeysDiffer ps → PairsGiven (operators.pairs_of h kvs ps)
+  pairs_given [] ps all named differ = (named, differ)
+  pairs_given (kv ∷ kvs) ps all named differ =
+      go (λ key. pairs_given kvs (insert_entry bytes_eq ps key kv.1) all.1 (inserted (length h) ps key kv.1 named all.0) (keys_differ_with ps key kv.1 differ)) (named_text h kv.0)
     where
       go : ((key : List ℕ) → PairsGiven (operators.pairs_of h kvs (insert_entry bytes_eq ps key kv.1))) → (o : Option (List ℕ)) → PairsGiven (read_by o (λ key. operators.pairs_of h kvs (insert_entry bytes_eq ps key kv.1)))
       go more None = tt
@@ -309,4 +313,4 @@ module _ (u : ℕ) (h : HeapOf FunCell) (units : ℕ) (s : HeapStands u h units)
 
   pub dictionary_stands : (kvs : List (Val × Val)) → AllByRecursion (λ kv. NamesBelow (length h) kv.1) kvs → Stands Named u h (dictionary_made kvs h units)
   unfolding dictionary_made
-  dictionary_stands kvs all = dictionary_of (operators.pairs_of h kvs []) (pairs_given kvs [] all tt)
+  dictionary_stands kvs all = dictionary_of (operators.pairs_of h kvs []) (pairs_given kvs [] all tt no_keys)

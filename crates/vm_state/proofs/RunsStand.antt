@@ -1,12 +1,14 @@
 -- Each run on the machine's course is a machine of its code.
 use Rattle.std.proofs.Common.{◌≡◌, ℕ, zero, suc, ◌-◌, ◌^◌, ◌<◌, List, [], ◌∷◌, length, Option, Some, None, true, refl, sym, ap, ◌∙◌, subst, arith}
 use Rattle.std.specs.Prelude.{IfSome, is_some}
+use Rattle.std.specs.List.{AllByRecursion}
 use Rattle.hog_value.specs.declared.cell.FunCell.{FunCell}
 use Rattle.hog_value.specs.declared.trace.End.TheVariants as end
 use Rattle.hog_value.specs.Values.{Val}
-use Rattle.hog_value.specs.Cells.{HeapOf, pairs_at}
+use Rattle.hog_value.specs.Cells.{CellOf, Text, Array, Dict, Fun, HeapOf, pairs_at, HasDistinctKeys}
 use Rattle.hog_value.specs.Operations as op
 use Rattle.hog_value.specs.Operations.{Outcome}
+use Rattle.state_forms.specs.Values.{CellFits}
 use Rattle.hog_ops.specs.Plain.{Ops}
 use Rattle.hog_ops.specs.Valid.{IsCode}
 use Rattle.hog_meaning.specs.Program.{first_cells}
@@ -19,7 +21,9 @@ use Rattle.vm_course.specs.Belongs.{belongs}
 use Rattle.vm_course.proofs.CodesBelong.{begins_belonging, keeps_belonging}
 use Rattle.vm_state.specs.Saved.{requests_in}
 use Rattle.vm_state.specs.Tests.{is_state}
-use Rattle.vm_state.specs.Laws.{AreGlobals, RunsAreMachines}
+use Rattle.vm_state.specs.Laws.{CellNumbers, AreGlobals, RunsAreMachines}
+use Rattle.vm_state.proofs.Alls.{all_if}
+use Rattle.vm_state.proofs.HeapsStand.{CellStands}
 use Rattle.vm_state.proofs.StatesStand.{Stand}
 use Rattle.vm_state.proofs.ActsStand.{steps_stand}
 use Rattle.vm_state.proofs.StartsStand.{StartsStanding, starts_standing}
@@ -34,6 +38,23 @@ record RunStands (r : RunState) : Type 0 where
   asked : requests_in r.state.trace < 2 ^ 32
   globals : IfSome r.globals (λ n. n < 2 ^ 32)
   none_left : r.state.replies ≡ []
+  keys : AllByRecursion HasDistinctKeys r.state.heap
+
+cell_keys : (n u : ℕ) (c : CellOf FunCell) → CellStands n u c → HasDistinctKeys c
+cell_keys n u (Text t) h = tt
+cell_keys n u (Array vs) h = tt
+cell_keys n u (Dict ps) h = h.1
+cell_keys n u (Fun f) h = tt
+
+cell_fits : (c : CellOf FunCell) → CellNumbers c → HasDistinctKeys c → CellFits c
+cell_fits (Text t) n k = tt
+cell_fits (Array vs) n k = n
+cell_fits (Dict ps) n k = (n, k)
+cell_fits (Fun f) n k = n
+
+cells_fit : (h : HeapOf FunCell) → AllByRecursion CellNumbers h → AllByRecursion HasDistinctKeys h → AllByRecursion CellFits h
+cells_fit [] n k = tt
+cells_fit (c ∷ h) n k = (cell_fits c n.0 k.0, cells_fit h n.1 k.1)
 
 within : (h : HeapOf FunCell) (n : ℕ) → is_some (pairs_at h n) ≡ true → n < length h
 within [] n e = absurd cc
@@ -68,6 +89,7 @@ stands fixed r st globals none =
       asked = omega (arith, asked);
       globals = subst (λ o. IfSome o (λ n. n < 2 ^ 32)) (sym globals) (omega (arith, there, covered, units));
       none_left = none;
+      keys = all_if (CellStands (length r.state.heap) (length r.state.upvalues)) HasDistinctKeys (cell_keys (length r.state.heap) (length r.state.upvalues)) r.state.heap st.heap.cells;
     }
 
 -- a run that ended with its first operation
@@ -78,7 +100,7 @@ ended_stays fixed code (suc k) s e = ap (steps fixed code k) (ap (λ m. step_in 
 
 spent : (ops used : ℕ) → RunStands (record { ops = ops; used = used; globals = None; state = started [] op.Spends })
 unfolding is_state
-spent ops used = record { is = refl; turns = omega arith; units = omega arith; asked = omega arith; globals = tt; none_left = refl }
+spent ops used = record { is = refl; turns = omega arith; units = omega arith; asked = omega arith; globals = tt; none_left = refl; keys = tt }
 
 spent_is : (r : RunState) → r.globals ≡ None → r.state ≡ started [] op.Spends → RunStands r
 spent_is r globals state =
@@ -150,7 +172,7 @@ runs_are_machines code globals replies r is object on fit =
         frames = fit.frames;
         throws = fit.throws;
         upvalues = fit.upvalues;
-        heap = fit.heap;
+        heap = cells_fit r.state.heap fit.heap s.keys;
         replies = s.none_left;
       };
       state = s.is;

@@ -14,7 +14,8 @@ use Rattle.hog_library.specs.Cells.{texts_made}
 use Rattle.hog_meaning.specs.Program.{first_cells}
 use Rattle.hog_meaning.specs.World.{Reply}
 use Rattle.vm_course.specs.Course.{started, fixed_by}
-use Rattle.vm_state.proofs.HeapsStand.{HeapStands, Stands, Named, AllNamed, PairsNamed, both_stand, texts_stand, cells_stand, members_stand}
+use Rattle.vm_state.proofs.KeysApart.{InOrder, MembersInOrder, kept_in_order, keys_in}
+use Rattle.vm_state.proofs.HeapsStand.{HeapStands, Stands, Named, AllNamed, PairsOf, both_stand, texts_stand, cells_stand, members_stand}
 use Rattle.vm_state.proofs.StatesStand.{Stand}
 
 -- at least so many cells, and more than so many whose last is a dictionary
@@ -83,25 +84,25 @@ first_stand : (texts : List (List ℕ)) (globals : List ℕ) → Stands Named 0 
 unfolding first_cells
 first_stand texts globals =
     both_stand 0 AllNamed Named [] (texts_made texts [] 0) (λ vs. read_cells (kept_value globals)) (texts_stand 0 texts [] 0 no_cells)
-    (λ vs h units s le q. cells_stand 0 (kept_value globals) h units s)
+    (λ vs h units s le q. cells_stand 0 (kept_value globals) h units (kept_in_order globals) s)
 
-members_have : (n : ℕ) (ms : Members) (h : HeapOf FunCell) (units : ℕ) → n ≤ length h → HeapStands 0 h units → HasCells n (read_members ms h units)
-members_have n ms h units le s = go (read_members ms h units) (members_stand 0 ms h units s)
+members_have : (n : ℕ) (ms : Members) (h : HeapOf FunCell) (units : ℕ) → MembersInOrder ms → n ≤ length h → HeapStands 0 h units → HasCells n (read_members ms h units)
+members_have n ms h units order le s = go (read_members ms h units) (members_stand 0 ms h units order s)
   where
-    go : (o : Outcome FunCell (List (List ℕ × Val))) → Stands PairsNamed 0 h o → HasCells n o
+    go : (o : Outcome FunCell (List (List ℕ × Val))) → Stands (PairsOf (keys_in ms)) 0 h o → HasCells n o
     go (op.Gives ps h1 units1) g = let more = g.keeps.cells in omega (arith, le, more)
     go (op.Throws kind) g = tt
     go op.Spends g = tt
 
-object_ends : (n : ℕ) (ms : Members) (h : HeapOf FunCell) (units : ℕ) → n ≤ length h → HeapStands 0 h units → EndsInDict n (read_cells (object ms) h units)
-object_ends n ms h units le s = both_end n n (read_members ms h units) (λ ps. made (Dict ps)) (members_have n ms h units le s) (λ ps h1 units1 le1. dict_ends n ps h1 units1 le1)
+object_ends : (n : ℕ) (ms : Members) (h : HeapOf FunCell) (units : ℕ) → MembersInOrder ms → n ≤ length h → HeapStands 0 h units → EndsInDict n (read_cells (object ms) h units)
+object_ends n ms h units order le s = both_end n n (read_members ms h units) (λ ps. made (Dict ps)) (members_have n ms h units order le s) (λ ps h1 units1 le1. dict_ends n ps h1 units1 le1)
 
 first_ends : (texts : List (List ℕ)) (globals : List ℕ) (ms : Members) → kept_value globals ≡ object ms → EndsInDict (length texts) (first_cells {F = FunCell} texts globals)
 unfolding first_cells
 first_ends texts globals ms is = go (texts_made texts [] 0) (texts_have 0 texts [] 0 (omega arith)) (texts_stand 0 texts [] 0 no_cells)
   where
     go : (o : Outcome FunCell (List Val)) → HasCells (0 + length texts) o → Stands AllNamed 0 [] o → EndsInDict (length texts) (outcome_and_then o (λ vs. read_cells (kept_value globals)))
-    go (op.Gives vs h units) le s = subst (λ d. EndsInDict (length texts) (read_cells d h units)) (sym is) (object_ends (length texts) ms h units (omega (arith, le)) s.heap)
+    go (op.Gives vs h units) le s = subst (λ d. EndsInDict (length texts) (read_cells d h units)) (sym is) (object_ends (length texts) ms h units (subst InOrder is (kept_in_order globals)) (omega (arith, le)) s.heap)
     go (op.Throws kind) le s = tt
     go op.Spends le s = tt
 

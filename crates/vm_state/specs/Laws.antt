@@ -3,13 +3,15 @@ use Rattle.std.specs.Prelude.{◌≡◌, ◌↔◌, ◌≢◌, ℕ, ◌<◌, ◌
 use Rattle.std.specs.List.{AllByRecursion}
 use Rattle.serde_json.specs.Data.{Data, Members, object}
 use Rattle.serde_json.specs.Read.{read}
+use Rattle.hog_value.specs.declared.cell.FunCell.{FunCell}
 use Rattle.hog_value.specs.declared.trace.End.TheVariants as end
+use Rattle.hog_value.specs.Cells.{CellOf, Text, Array, Dict, Fun}
 use Rattle.hog_json.specs.Reading.{kept_value}
 use Rattle.hog_ops.specs.Plain.{Ops}
 use Rattle.hog_ops.specs.Valid.{IsCode}
 use Rattle.hog_meaning.specs.World.{Reply}
 use Rattle.state_forms.specs.Shapes.{list_in, number_data}
-use Rattle.state_forms.specs.Values.{ValueFits, CellFits}
+use Rattle.state_forms.specs.Values.{ValueFits, PairFits, CellFits}
 use Rattle.state_forms.specs.Calls.{FrameFits, ThrowFits, UpvalueFits}
 use Rattle.vm_course.specs.State.{Ended}
 use Rattle.vm_state.specs.declared.stop.StateStop.{StateStop}
@@ -89,7 +91,13 @@ LoadsStates = (code : Ops) (bytes : List ℕ) (m : RunState) → load_of code by
 abbrev pub AreGlobals : List ℕ → Type 0
 AreGlobals globals = (ms : Members) × (kept_value globals ≡ object ms)
 
--- Each number of a run is one of its type, and no dictionary has a key twice: what the types of a machine that runs keep.
+-- Each number of a run is one of its type: what the types of a machine that runs keep.
+abbrev pub CellNumbers : CellOf FunCell → Type 0
+CellNumbers (Text t) = Unit {0}
+CellNumbers (Array vs) = AllByRecursion ValueFits vs
+CellNumbers (Dict ps) = AllByRecursion PairFits ps
+CellNumbers (Fun f) = (f.place < 2 ^ 32) × AllByRecursion (λ n. n < 2 ^ 32) f.captured
+
 pub record NumbersFit (r : RunState) : Type 0 where
   pub ops : r.ops < 2 ^ 64
   pub used : r.used < 2 ^ 64
@@ -97,7 +105,7 @@ pub record NumbersFit (r : RunState) : Type 0 where
   pub frames : AllByRecursion FrameFits r.state.frames
   pub throws : AllByRecursion ThrowFits r.state.throws
   pub upvalues : AllByRecursion UpvalueFits r.state.upvalues
-  pub heap : AllByRecursion CellFits r.state.heap
+  pub heap : AllByRecursion CellNumbers r.state.heap
 
 -- each run of a code on its globals and replies is a machine of the code, which is saved and loaded
 abbrev pub RunsAreMachines : Type 0

@@ -1,16 +1,18 @@
 //! The machine of what was read.
 
-ghost use Rattle.std.specs.Prelude.{◌≡◌, ◌≤◌, ◌<◌, ◌∷◌, true, false, map, length, reverse, IfOk};
+ghost use Rattle.std.specs.Prelude.{◌≡◌, ◌≤◌, ◌<◌, ◌∷◌, true, false, map, length, reverse, IsTrue, IfOk};
 ghost use Rattle.std.specs.List.{AllByRecursion};
 ghost use Rattle.hog_value.specs.Views.{cell_of};
 ghost use Rattle.state_forms.specs.Values.{CellFits};
+ghost use Rattle.vm_frames.specs.Parts.{places_differ};
+ghost use Rattle.vm_frames.specs.Views.{upvalue_of};
 ghost use Rattle.vm_state.specs.Parts.{state_of};
 ghost use Rattle.vm_state.specs.Tests.{is_state};
 
-use crate::parts::{Calls, Held, Parts};
+use crate::parts::Parts;
 use hog_value::{Heap, Meter, Shown, Trace};
 use std::alloc::{AllocError, Global};
-use vm_frames::{Frame, Frames, Stack, Throws, Upvalues};
+use vm_frames::{Frame, Frames, Stack, Throws, Upvalue, Upvalues};
 use vm_operations::Machine;
 use vm_operations::parts::Parts as MachineParts;
 
@@ -25,6 +27,17 @@ fn split(frames: Vec<Frame>) -> (Frames, Frame)
         unreachable!()
     };
     (Frames::from_list(around), innermost)
+}
+
+/// The upvalues of a machine. Where they are too many to be numbered, that is answered as want of memory.
+fn upvalues_of(alloc: Global, list: Vec<Upvalue>) -> Result<Upvalues, AllocError>
+    requires { IsTrue (places_differ (map upvalue_of list.items)) }
+    ensures { IfOk result (λ us. us ≡ map upvalue_of list.items) }
+{
+    if list.len() > u32::MAX as usize {
+        return Err(AllocError);
+    }
+    Upvalues::from_list(alloc, list)
 }
 
 /// The machine of what was read.
@@ -42,23 +55,11 @@ pub fn machine_of(alloc: Global, p: Parts) -> Result<Machine, AllocError>
         calls,
         held,
     } = p;
-    let Held {
-        upvalues,
-        cells,
-        trace,
-    } = held;
-    let Calls {
-        stack,
-        frames,
-        throws,
-    } = calls;
-    let heap = Heap::from_cells(cells);
-    let stack = Stack::from_values(stack)?;
-    if upvalues.len() > u32::MAX as usize {
-        return Err(AllocError);
-    }
-    let upvalues = Upvalues::from_list(alloc, upvalues)?;
-    let (around, frame) = split(frames);
+    let heap = Heap::from_cells(held.cells);
+    let stack = Stack::from_values(calls.stack)?;
+    let upvalues = upvalues_of(alloc, held.upvalues)?;
+    let (around, frame) = split(calls.frames);
+    let trace = Trace::new(held.trace);
     let meter = Meter {
         turns: counts.turns,
         units: counts.units,
@@ -71,14 +72,11 @@ pub fn machine_of(alloc: Global, p: Parts) -> Result<Machine, AllocError>
         stack,
         frame,
         around,
-        throws: Throws::from_list(throws),
+        throws: Throws::from_list(calls.throws),
         upvalues,
         heap,
         meter,
-        shown: Shown {
-            trace: Trace::new(trace),
-            end,
-        },
+        shown: Shown { trace, end },
         waiting,
     }))
 }

@@ -13,6 +13,8 @@ mod reading;
 pub mod saved;
 mod standing;
 pub mod stop;
+#[cfg(test)]
+mod tests;
 mod writing;
 
 pub use saved::{load, save};

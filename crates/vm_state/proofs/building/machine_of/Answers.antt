@@ -5,8 +5,8 @@ use Rattle.vm_state.proofs.building.machine_of.Goals as goal
 pub from_cells-heap-requires : goal.from_cells-heap-requires
 from_cells-heap-requires c = (holds c.args.p c.requires.state c.requires.ranged).sound
 
-pub from_list-requires-clause-apart : goal.from_list-requires-clause-apart
-from_list-requires-clause-apart c = is_true _ (holds c.args.p c.requires.state c.requires.ranged).differ
+pub upvalues_of-requires : goal.upvalues_of-requires
+upvalues_of-requires c = is_true _ (holds c.args.p c.requires.state c.requires.ranged).differ
 
 pub split-around-requires-clause-some : goal.split-around-requires-clause-some
 split-around-requires-clause-some c = (holds c.args.p c.requires.state c.requires.ranged).some
@@ -23,4 +23,4 @@ from_parts-requires-clause-fit c =
 
 pub from_parts-requires-clause-standing : goal.from_parts-requires-clause-standing
 from_parts-requires-clause-standing c =
-    standing_made c.args.p _ (holds c.args.p c.requires.state c.requires.ranged) refl c.from_cells-heap.ensures (modes c.args.p.waiting c.args.p.end) c.new.ensures
+    standing_made c.args.p _ (holds c.args.p c.requires.state c.requires.ranged) refl c.from_cells-heap.ensures (modes c.args.p.waiting c.args.p.end) c.new-trace.ensures
