@@ -6,3 +6,4 @@ pub mod Spelled
 pub mod Nesting
 pub mod Courses
 pub mod Evaluating
+pub mod SavedSlices

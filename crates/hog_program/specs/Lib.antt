@@ -6,3 +6,4 @@ pub mod Placing
 pub mod Program
 pub mod Course
 pub mod Evaluation
+pub mod Saved
