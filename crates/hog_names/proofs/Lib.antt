@@ -1,0 +1,11 @@
+pub mod Found
+pub mod Items
+pub mod Within
+pub mod Sights
+pub mod Twins
+pub mod Calls
+pub mod Runs
+pub mod Again
+pub mod Events
+pub mod Whole
+pub mod Namings

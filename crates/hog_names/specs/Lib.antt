@@ -1,0 +1,4 @@
+pub mod Numbers
+pub mod Anew
+pub mod Laws
+pub mod Examples
