@@ -9,6 +9,8 @@ pub mod failing;
 pub mod fetcher;
 pub mod gate;
 pub mod listed;
+#[cfg(test)]
+mod tests;
 
 pub use failing::FailingFetcher;
 pub use fetcher::{FetchStop, Fetcher};
