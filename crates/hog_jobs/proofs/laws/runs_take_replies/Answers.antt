@@ -1,0 +1,5 @@
+use Rattle.hog_jobs.specs.CourseRuns as runs
+use Rattle.hog_jobs.proofs.laws.runs_take_replies.Goals as goal
+
+pub returns : goal.returns
+returns c = runs.replies_at
