@@ -1,0 +1,4 @@
+mod Slices
+mod Nexts
+mod NextReply
+mod Leased
