@@ -3,8 +3,6 @@ use Rattle.std.specs.Prelude.{ℕ, List, [], ◌++◌, codes}
 use Rattle.std.specs.Fmt.{decimal}
 use Rattle.hog_program.specs.declared.stop.BuildStop.{BuildStop}
 use Rattle.hog_program.specs.declared.stop.BuildStop.TheVariants as stop
-use Rattle.script_reader.specs.declared.step.SourceStop.{SourceStop}
-use Rattle.script_reader.specs.declared.step.SourceStop.TheVariants as source
 use Rattle.script_reader.specs.declared.step.ScriptStop.{ScriptStop}
 use Rattle.script_reader.specs.declared.step.ScriptStop.TheVariants as script
 
@@ -23,16 +21,11 @@ cause_of (stop.UnknownFunction at) = codes "unknown function at " ++ decimal at
 cause_of (stop.WrongCount at) = codes "wrong count at " ++ decimal at
 cause_of stop.OutOfMemory = []
 
--- why the source of a job is not taken
-abbrev pub source_cause : SourceStop → List ℕ
-source_cause (source.Refused stop) = cause_of stop
-source_cause source.NotBuiltYet = codes "not built yet"
-
 -- why a text is no script, with the number of a step in decimal, counted from 0
 abbrev pub script_cause : ScriptStop → List ℕ
 script_cause script.NotJson = codes "not json"
 script_cause script.NotAScript = codes "not a script"
 script_cause script.TooMany = codes "too many steps"
 script_cause (script.BadStep n) = codes "step " ++ (decimal n ++ codes " is bad")
-script_cause (script.BadSource n stop) = codes "step " ++ (decimal n ++ (codes ": " ++ source_cause stop))
+script_cause (script.BadSource n stop) = codes "step " ++ (decimal n ++ (codes ": " ++ cause_of stop))
 script_cause script.OutOfMemory = []

@@ -2,11 +2,11 @@
 
 ghost use Rattle.std.specs.Prelude.{◌≡◌, ◌++◌, ℕ, List, IfOk, OnOk, string_bytes, codes};
 ghost use Rattle.std.specs.Fmt.{decimal};
-ghost use Rattle.hog_runner.specs.Causes.{cause_of, script_cause, source_cause};
+ghost use Rattle.hog_runner.specs.Causes.{cause_of, script_cause};
 ghost use Rattle.hog_runner.specs.Writes.{refusal};
 
 use hog_program::BuildStop;
-use script_reader::{ScriptStop, SourceStop};
+use script_reader::ScriptStop;
 use std::alloc::{AllocError, Global};
 
 /// The line of the refusal of a source that is no program.
@@ -58,16 +58,6 @@ fn push_place(line: &mut String, cause: &str, at: usize) -> Result<(), AllocErro
     write!(line, "{at}")
 }
 
-/// Adds why the source of a job is not taken.
-fn push_source_cause(line: &mut String, stop: SourceStop) -> Result<(), AllocError>
-    ensures { OnOk result (string_bytes line.new ≡ string_bytes line.old ++ source_cause stop) }
-{
-    match stop {
-        SourceStop::Refused(stop) => push_cause(line, stop),
-        SourceStop::NotBuiltYet => line.push_str("not built yet"),
-    }
-}
-
 /// Adds the number of a step.
 fn push_step(line: &mut String, step: u32) -> Result<(), AllocError>
     ensures { OnOk result
@@ -91,7 +81,7 @@ fn push_script_cause(line: &mut String, stop: ScriptStop) -> Result<(), AllocErr
         ScriptStop::BadSource { step, stop } => {
             push_step(line, step)?;
             line.push_str(": ")?;
-            push_source_cause(line, stop)
+            push_cause(line, stop)
         }
         ScriptStop::OutOfMemory => Ok(()),
     }

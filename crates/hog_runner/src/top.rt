@@ -10,7 +10,8 @@ ghost use Rattle.hog_meaning.specs.Program.{meaning};
 ghost use Rattle.vm_course.specs.Course.{end_in};
 ghost use Rattle.line_writer.specs.Added.{Adds, AddsPrefix, AddsUnless};
 ghost use Rattle.script_reader.specs.declared.step.Step.{Step};
-ghost use Rattle.script_steps.specs.Book.{KeepsTheMeaning};
+ghost use Rattle.hog_jobs.specs.Rows.{KeepsTheMeaning};
+ghost use Rattle.script_steps.specs.Headline.{DeadFlushChangesNothing, LiveFlushIsDone};
 ghost use Rattle.script_steps.specs.Plays.{Plays, PlaysPart};
 ghost use Rattle.hog_runner.specs.Causes.{cause_of, script_cause};
 ghost use Rattle.hog_runner.specs.Commands.{command_of, most_bytes, Accepts, Gives, IsReady, Outputs, OutputsPart, Refuses, ScriptOf};
@@ -25,6 +26,7 @@ use crate::words::{Command, SourceCommand, command_of};
 use bytecode_json::encode;
 use cyclotron_core::QueueState;
 use hog_compiler::compile_tree;
+use hog_jobs::HogCourse;
 use hog_outside::{Sink, Source};
 use hog_printer::print_tree;
 use hog_program::laws::{built_or_unbuilt, program_or_none};
@@ -36,7 +38,8 @@ use job_keeper::Keeper;
 use line_writer::{OutputStop, write_line, write_run, write_whole};
 use script_reader::laws::script_or_none;
 use script_reader::{Script, ScriptStop};
-use script_steps::{HogCourse, play};
+use script_steps::laws::{dead_flush, live_flush};
+use script_steps::play;
 use std::alloc::{AllocError, Global};
 use vm_operations::Machine;
 
@@ -118,9 +121,13 @@ pub fn top_still<S: Source, W: Sink, K: Keeper>(
 
     // Whatever the script was: each job's committed trace is a beginning of the meaning of its source, on its committed
     // replies; a completed job's result, prints and requests are that meaning; each job is on course, and the history
-    // is legal. What a flush does under a lock that is live, and under one that isn't, is said by the definition of its
-    // step (`Flushes` of script_steps/specs/Play.antt).
+    // is legal.
     ensures meaning { IfSome result.closed (λ closed. KeepsTheMeaning closed.jobs.rows closed.jobs.history) }
+
+    // Wherever a flush comes among the steps: under a lock that isn't live it changes nothing, and under the live one,
+    // begun at the committed state, it is done, or a keeper's fault is said.
+    ensures dead_flush { DeadFlushChangesNothing }
+    ensures live_flush { LiveFlushIsDone }
 
     // Where the command takes its input and nothing failed, 0 comes, or 5.
     ensures complete { (command : Asked) → command_of words.now ≡ Some command
@@ -135,6 +142,8 @@ pub fn top_still<S: Source, W: Sink, K: Keeper>(
     ensures source_count { S.faults source.old ≤ S.faults source.new }
     ensures sink_count { W.faults sink.old ≤ W.faults sink.new }
 {
+    dead_flush();
+    live_flush();
     let Some(command) = command_of(words) else {
         refuse(sink, b"refused: words\n");
         return Answer {

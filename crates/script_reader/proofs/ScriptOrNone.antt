@@ -5,12 +5,9 @@ use Rattle.serde_json.specs.Data.{Data}
 use Rattle.hog_tree.specs.Plain.{Stms}
 use Rattle.hog_program.specs.Build.{IsBuilt, IsUnbuilt}
 use Rattle.hog_program.specs.declared.stop.BuildStop.{BuildStop}
-use Rattle.hog_sums.specs.Sums.{IsSums}
 use Rattle.script_reader.specs.Elements.{elements_of, step_of}
 use Rattle.script_reader.specs.Steps.{Builds}
 use Rattle.script_reader.specs.Script.{BuildFails, IsNoScript, IsOther, IsScript, IsStepOf, NoScriptIn, NoStepsIn, ScriptIn, StopsIn}
-use Rattle.script_reader.specs.declared.step.SourceStop.{SourceStop}
-use Rattle.script_reader.specs.declared.step.SourceStop.TheVariants.{Refused, NotBuiltYet}
 use Rattle.script_reader.specs.declared.step.ScriptStop.{ScriptStop}
 use Rattle.script_reader.specs.declared.step.ScriptStop.TheVariants.{NotJson, NotAScript, TooMany, BadStep, BadSource, OutOfMemory}
 use Rattle.script_reader.specs.declared.step.Step.{Step}
@@ -39,15 +36,12 @@ one text a b p q =
     let elements : q.script.elements ≡ p.script.elements = same_elements p.value q.script.elements p.script.elements are p.script.are in
     same_steps p.script.elements a b p.script.each (subst (λ ds. AllZip IsStepOf ds b) elements q.script.each)
 
--- the laws of sources that are used
-pub record SourceLaws : Type 0 where
-  pub one_whole : (source : List ℕ) (a b : Stms) → IsBuilt source a → IsBuilt source b → a ≡ b
-  pub built_or_unbuilt : (source : List ℕ) (whole : Stms) (stop : BuildStop) → IsBuilt source whole → IsUnbuilt source stop → ⊥
+-- a source is built, or it isn't
+abbrev pub BuiltOrUnbuilt : Type 0
+BuiltOrUnbuilt = (source : List ℕ) (whole : Stms) (stop : BuildStop) → IsBuilt source whole → IsUnbuilt source stop → ⊥
 
-builds_or_fails : SourceLaws → (step : Step) (stop : SourceStop) → Builds step → BuildFails step stop → ⊥
-builds_or_fails laws (Enqueue input priority at) (Refused stop) builds fails = laws.built_or_unbuilt input.source builds.0 stop builds.1.built fails
-builds_or_fails laws (Enqueue input priority at) NotBuiltYet builds fails =
-    fails.2 (subst IsSums (laws.one_whole input.source builds.0 fails.0 builds.1.built fails.1) builds.1.sums)
+builds_or_fails : BuiltOrUnbuilt → (step : Step) (stop : BuildStop) → Builds step → BuildFails step stop → ⊥
+builds_or_fails laws (Enqueue input priority at) stop builds fails = laws input.source builds.1.whole stop builds.1.is_built fails
 builds_or_fails laws (Take worker on now) stop builds fails = fails
 builds_or_fails laws (Beat worker now) stop builds fails = fails
 builds_or_fails laws (Work worker slice) stop builds fails = fails
@@ -58,7 +52,7 @@ builds_or_fails laws (Lose worker) stop builds fails = fails
 builds_or_fails laws (Forge worker job draw) stop builds fails = fails
 builds_or_fails laws (Back worker at) stop builds fails = fails
 
-steps_or_stop : SourceLaws → (ds : List Data) (steps : List Step) (stop : ScriptStop) → AllZip IsStepOf ds steps → StopsIn ds stop → ⊥
+steps_or_stop : BuiltOrUnbuilt → (ds : List Data) (steps : List Step) (stop : ScriptStop) → AllZip IsStepOf ds steps → StopsIn ds stop → ⊥
 steps_or_stop laws ds steps NotJson zipped stops = stops
 steps_or_stop laws ds steps NotAScript zipped stops = stops
 steps_or_stop laws ds steps TooMany zipped stops = stops
@@ -72,12 +66,12 @@ steps_or_stop laws ds steps (BadSource n stop) zipped stops =
     builds_or_fails laws stops.here.step stop (subst Builds same there.1.builds) stops.here.fails
 steps_or_stop laws ds steps OutOfMemory zipped stops = stops
 
-steps_or_none : SourceLaws → (d : Data) (steps : List Step) (stop : ScriptStop) → ScriptIn d steps → NoStepsIn d stop → ⊥
+steps_or_none : BuiltOrUnbuilt → (d : Data) (steps : List Step) (stop : ScriptStop) → ScriptIn d steps → NoStepsIn d stop → ⊥
 steps_or_none laws d steps stop script none =
     let same = same_elements d script.elements none.elements script.are none.are in
     steps_or_stop laws none.elements steps stop (subst (λ ds. AllZip IsStepOf ds steps) same script.each) none.stops
 
-script_or_stop : SourceLaws → (d : Data) (steps : List Step) (stop : ScriptStop) → ScriptIn d steps → NoScriptIn d stop → ⊥
+script_or_stop : BuiltOrUnbuilt → (d : Data) (steps : List Step) (stop : ScriptStop) → ScriptIn d steps → NoScriptIn d stop → ⊥
 script_or_stop laws d steps NotJson script none = none
 script_or_stop laws d steps NotAScript script none = let bad : None ≡ Some script.elements = sym none ∙ script.are in absurd (cc)
 script_or_stop laws d steps TooMany script none =
@@ -87,12 +81,12 @@ script_or_stop laws d steps (BadStep n) script none = steps_or_none laws d steps
 script_or_stop laws d steps (BadSource n stop) script none = steps_or_none laws d steps (BadSource n stop) script none
 script_or_stop laws d steps OutOfMemory script none = none
 
-script_or_other : SourceLaws → (text : List ℕ) (steps : List Step) (stop : ScriptStop) → IsScript text steps → IsOther text stop → ⊥
+script_or_other : BuiltOrUnbuilt → (text : List ℕ) (steps : List Step) (stop : ScriptStop) → IsScript text steps → IsOther text stop → ⊥
 script_or_other laws text steps stop script other =
     let same : script.value ≡ other.value = same_some _ script.value other.value script.json.is other.json.is in
     script_or_stop laws other.value steps stop (subst (λ d. ScriptIn d steps) same script.script) other.stops
 
-pub script_or_none : SourceLaws → (text : List ℕ) (steps : List Step) (stop : ScriptStop) → IsScript text steps → IsNoScript text stop → ⊥
+pub script_or_none : BuiltOrUnbuilt → (text : List ℕ) (steps : List Step) (stop : ScriptStop) → IsScript text steps → IsNoScript text stop → ⊥
 script_or_none laws text steps NotJson script none =
     let bad : None ≡ Some script.value = sym (none script.json.utf8) ∙ script.json.is in absurd (cc)
 script_or_none laws text steps NotAScript script none = script_or_other laws text steps NotAScript script none

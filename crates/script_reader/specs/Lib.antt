@@ -1,4 +1,4 @@
-pub mod Programs
+pub mod Globals
 pub mod Elements
 pub mod Steps
 pub mod Script

@@ -4,26 +4,18 @@ use Rattle.std.specs.List.{AllZip}
 use Rattle.std.specs.Str.{IsUtf8}
 use Rattle.serde_json.specs.Data.{Data}
 use Rattle.serde_json.specs.Read.{read}
-use Rattle.hog_tree.specs.Plain.{Stms}
-use Rattle.hog_program.specs.Build.{IsBuilt, IsUnbuilt}
-use Rattle.hog_sums.specs.Sums.{IsSums}
+use Rattle.hog_program.specs.Build.{IsUnbuilt}
+use Rattle.hog_program.specs.declared.stop.BuildStop.{BuildStop}
 use Rattle.script_reader.specs.Elements.{elements_of, step_of}
 use Rattle.script_reader.specs.Steps.{Builds}
 use Rattle.script_reader.specs.declared.step.Step.{Step}
 use Rattle.script_reader.specs.declared.step.Step.TheVariants.{Enqueue, Take, Beat, Work, Answer, Flush, Sweep, Lose, Forge, Back}
-use Rattle.script_reader.specs.declared.step.SourceStop.{SourceStop}
-use Rattle.script_reader.specs.declared.step.SourceStop.TheVariants.{Refused, NotBuiltYet}
 use Rattle.script_reader.specs.declared.step.ScriptStop.{ScriptStop}
 use Rattle.script_reader.specs.declared.step.ScriptStop.TheVariants.{NotJson, NotAScript, TooMany, BadStep, BadSource, OutOfMemory}
 
--- why a source is not taken: it isn't built, or it is built and its whole program isn't one of sums
-abbrev pub IsNoSource : List ℕ → SourceStop → Type 0
-IsNoSource source (Refused stop) = IsUnbuilt source stop
-IsNoSource source NotBuiltYet = (tree : Stms) × IsBuilt source tree × ¬ (IsSums tree)
-
--- the step has a source that is not taken
-abbrev pub BuildFails : Step → SourceStop → Type 0
-BuildFails (Enqueue input priority at) stop = IsNoSource input.source stop
+-- the step has a source that isn't built, for this reason
+abbrev pub BuildFails : Step → BuildStop → Type 0
+BuildFails (Enqueue input priority at) stop = IsUnbuilt input.source stop
 BuildFails (Take worker on now) stop = ⊥
 BuildFails (Beat worker now) stop = ⊥
 BuildFails (Work worker slice) stop = ⊥
@@ -40,7 +32,7 @@ pub record IsStepOf (d : Data) (step : Step) : Type 0 where
   pub builds : Builds step
 
 -- the element is a step but for its source
-pub record HasNoSource (stop : SourceStop) (d : Data) : Type 0 where
+pub record HasNoSource (stop : BuildStop) (d : Data) : Type 0 where
   pub step : Step
   pub read : step_of d ≡ Some step
   pub fails : BuildFails step stop

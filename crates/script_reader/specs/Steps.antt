@@ -1,8 +1,9 @@
 -- Which steps are fit to be played.
 use Rattle.std.specs.Prelude.{◌≡◌, ◌≤◌}
-use Rattle.hog_tree.specs.Plain.{Stms}
+use Rattle.hog_ops.specs.Plain.{Ops}
+use Rattle.hog_program.specs.Program.{HasCode}
 use Rattle.cyclotron_jobs.specs.declared.input.Answers.TheVariants.{Free}
-use Rattle.script_reader.specs.Programs.{IsGlobals, IsSumsOf}
+use Rattle.script_reader.specs.Globals.{IsGlobals}
 use Rattle.script_reader.specs.Elements.{most_worker, most_moment, most_slice, most_job}
 use Rattle.script_reader.specs.declared.step.Step.{Step}
 use Rattle.script_reader.specs.declared.step.Step.TheVariants.{Enqueue, Take, Beat, Work, Answer, Flush, Sweep, Lose, Forge, Back}
@@ -20,9 +21,9 @@ IsInRange (Lose worker) = worker ≤ most_worker
 IsInRange (Forge worker job draw) = (worker ≤ most_worker) × (job ≤ most_job) × (draw ≤ most_moment)
 IsInRange (Back worker at) = (worker ≤ most_worker) × (at ≤ most_moment)
 
--- the source of the step is taken, where it has one
+-- the source of the step is built, and has a code, where it has one
 abbrev pub Builds : Step → Type 0
-Builds (Enqueue input priority at) = (tree : Stms) × IsSumsOf input.source tree
+Builds (Enqueue input priority at) = (code : Ops) × HasCode input.source code
 Builds (Take worker on now) = Unit {0}
 Builds (Beat worker now) = Unit {0}
 Builds (Work worker slice) = Unit {0}

@@ -14,6 +14,5 @@ pub fn one_script()
 pub fn script_or_none()
     ensures { (text : List ℕ) (steps : List Step) (stop : ScriptStop) → IsScript text steps → IsNoScript text stop → ⊥ }
 {
-    hog_program::laws::one_whole();
     hog_program::laws::built_or_unbuilt();
 }

@@ -93,9 +93,9 @@ fn script_in(alloc: Global, value: &Value) -> Result<Script, ScriptStop>
     script_of(alloc, elements.as_slice())
 }
 
-/// Reads a script: a JSON array of at most 65,536 elements, each a step whose source is taken. The refusal is the first
+/// Reads a script: a JSON array of at most 65,536 elements, each a step whose source is built. The refusal is the first
 /// that comes: no JSON, no array, too many elements, and then that of the first element that is no step or has a source
-/// that isn't taken; an element that is no step isn't looked at further. Each comes exactly where its cause is
+/// that isn't built; an element that is no step isn't looked at further. Each comes exactly where its cause is
 /// (`script_or_none`).
 pub fn read_script(alloc: Global, text: &[u8]) -> Result<Script, ScriptStop>
     ensures script { IfOk result (IsScript text.now) }

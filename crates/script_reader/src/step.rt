@@ -54,15 +54,6 @@ pub enum Step {
     },
 }
 
-/// Why the source of a job is not taken.
-#[derive(Clone, Copy, Debug, PartialEq, Eq)]
-pub enum SourceStop {
-    /// It isn't built, and never for want of memory: it is no program, or its names have a fault.
-    Refused(BuildStop),
-    /// It is built, and its whole program has forms that can't be run yet.
-    NotBuiltYet,
-}
-
 /// Why a text is no script. Steps are counted from 0.
 #[derive(Clone, Copy, Debug, PartialEq, Eq)]
 pub enum ScriptStop {
@@ -73,8 +64,8 @@ pub enum ScriptStop {
     TooMany,
     /// The first element that is no step, where no source before it is refused.
     BadStep { step: u32 },
-    /// The first element whose source is not taken, where each element before it is a step.
-    BadSource { step: u32, stop: SourceStop },
+    /// The first element whose source isn't built, never for want of memory, where each element before it is a step.
+    BadSource { step: u32, stop: BuildStop },
     OutOfMemory,
 }
 

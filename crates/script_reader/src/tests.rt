@@ -1,11 +1,11 @@
 use crate::script::read_script;
-use crate::step::{ScriptStop, SourceStop};
+use crate::step::ScriptStop;
 use hog_program::BuildStop;
 use std::test::Fail;
 
 #[test]
 fn texts_that_are_no_scripts(rt: HostRuntime) {
-    let assigned = SourceStop::Refused(BuildStop::AssignsUnknown { at: 0 });
+    let assigned = BuildStop::AssignsUnknown { at: 0 };
     let rows = [
         ("", ScriptStop::NotJson),
         ("[1e400]", ScriptStop::NotJson),
@@ -38,10 +38,10 @@ fn texts_that_are_no_scripts(rt: HostRuntime) {
             ScriptStop::BadStep { step: 0 },
         ),
         (
-            "[[\"enqueue\",\"while (true) {}\",{},0,0]]",
+            "[[\"enqueue\",\"return 1;\",{},0,0],[\"enqueue\",\"return '\",{},0,0]]",
             ScriptStop::BadSource {
-                step: 0,
-                stop: SourceStop::NotBuiltYet,
+                step: 1,
+                stop: BuildStop::Unclosed { at: 7 },
             },
         ),
     ];

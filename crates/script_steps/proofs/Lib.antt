@@ -1,5 +1,5 @@
-pub mod CourseLemmas
-pub mod Runs
 pub mod PlayLemmas
+pub mod FreeLemmas
+pub mod HeadlineLemmas
 pub mod Snoc
 pub mod LineLemmas

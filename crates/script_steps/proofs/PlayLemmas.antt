@@ -3,6 +3,7 @@ use Rattle.std.proofs.Common.{◌≡◌, ◌≢◌, ℕ, zero, suc, ◌+◌, ◌
 use Rattle.hog_outside.specs.Faults.{Rose}
 use Rattle.lock_ids.specs.declared.lock.LockId.{LockId}
 use Rattle.cyclotron_jobs.specs.declared.entry.Entry.{Entry}
+use Rattle.cyclotron_jobs.specs.declared.input.Reply.{Reply}
 use Rattle.cyclotron_jobs.specs.declared.row.Row.{Row}
 use Rattle.cyclotron_jobs.specs.declared.refused.LeaseStop.{LeaseStop}
 use Rattle.cyclotron_jobs.specs.declared.refused.LeaseStop.TheVariants as stop
@@ -15,10 +16,10 @@ use Rattle.cyclotron_core.specs.Changes.{IsOneStep, IsSweep, IsUntouched, row_af
 use Rattle.cyclotron_core.specs.Refusals.{Refuses}
 use Rattle.script_steps.specs.declared.said.Held.{Held}
 use Rattle.script_steps.specs.declared.said.Said.{Said}
-use Rattle.script_steps.specs.declared.said.Said.TheVariants.{Job, Full, Taken, Busy, Nothing, Idle, Fine, Sliced, Asks, Ended, Poisoned, Refused, Keeper}
+use Rattle.script_steps.specs.declared.said.Said.TheVariants.{Job, Full, Taken, Busy, Nothing, Idle, Fine, Sliced, Asks, Ended, Answered, Poisoned, Refused, Keeper}
 use Rattle.cyclotron_jobs.specs.declared.row.After.{After}
 use Rattle.cyclotron_jobs.specs.declared.row.After.TheVariants as after
-use Rattle.script_steps.specs.Play.{Place, place_of, Stays, Appends, Swept, IsRefused, Works, Loses, Forges, RoseBy, faults_in, said_of}
+use Rattle.script_steps.specs.Play.{Place, place_of, Stays, Appends, Swept, IsRefused, Works, Replies, Loses, Forges, RoseBy, faults_in, said_of}
 
 pub rose_none : (a b : ℕ) → a ≤ b → RoseBy 0 a b
 rose_none a b le = inl (omega (arith, le))
@@ -96,32 +97,16 @@ pub works_rose : (slice : ℕ) (old new : Place) (said : Said) (a b : ℕ) → W
 works_rose slice old new said a b (inl idle) le = rose_by (faults_in said) a b (ap faults_in idle.0) le
 works_rose slice old new said a b (inr worked) le = rose_by (faults_in said) a b (ap faults_in worked.word ∙ said_no_fault worked.run.after worked.run.to) le
 
+pub replies_rose : (reply : Reply) (old new : Place) (said : Said) (a b : ℕ) → Replies reply old said new → a ≤ b → RoseBy (faults_in said) a b
+replies_rose reply old new said a b (inl idle) le = rose_by (faults_in said) a b (ap faults_in idle.0) le
+replies_rose reply old new said a b (inr replied) le = rose_by (faults_in said) a b (ap faults_in replied.word) le
+
 pub loses_rose : (old new : Place) (said : Said) (a b : ℕ) → Loses old said new → a ≤ b → RoseBy (faults_in said) a b
 loses_rose old new Idle a b h le = rose_none a b le
 loses_rose old new Fine a b h le = rose_none a b le
-loses_rose old new (Job job) a b h le = absurd h
-loses_rose old new Full a b h le = absurd h
-loses_rose old new (Taken lock) a b h le = absurd h
-loses_rose old new Busy a b h le = absurd h
-loses_rose old new Nothing a b h le = absurd h
-loses_rose old new (Sliced ops) a b h le = absurd h
-loses_rose old new (Asks ops) a b h le = absurd h
-loses_rose old new (Ended ops) a b h le = absurd h
-loses_rose old new (Poisoned job) a b h le = absurd h
-loses_rose old new (Refused why) a b h le = absurd h
-loses_rose old new Keeper a b h le = absurd h
+loses_rose old new said a b h le = absurd h
 
 pub forges_rose : (lock : LockId) (old new : Place) (said : Said) (a b : ℕ) → Forges lock old said new → a ≤ b → RoseBy (faults_in said) a b
 forges_rose lock old new Idle a b h le = rose_none a b le
 forges_rose lock old new Fine a b h le = rose_none a b le
-forges_rose lock old new (Job job) a b h le = absurd h
-forges_rose lock old new Full a b h le = absurd h
-forges_rose lock old new (Taken taken) a b h le = absurd h
-forges_rose lock old new Busy a b h le = absurd h
-forges_rose lock old new Nothing a b h le = absurd h
-forges_rose lock old new (Sliced ops) a b h le = absurd h
-forges_rose lock old new (Asks ops) a b h le = absurd h
-forges_rose lock old new (Ended ops) a b h le = absurd h
-forges_rose lock old new (Poisoned job) a b h le = absurd h
-forges_rose lock old new (Refused why) a b h le = absurd h
-forges_rose lock old new Keeper a b h le = absurd h
+forges_rose lock old new said a b h le = absurd h

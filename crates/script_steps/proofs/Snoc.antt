@@ -1,14 +1,27 @@
 -- One step more of a play.
-use Rattle.std.proofs.Common.{◌≡◌, ℕ, ◌+◌, ◌<◌, ◌≤◌, ◌⊎◌, ◌^◌, inl, inr, List, [], ◌∷◌, ◌++◌, length, get_or, take, drop, refl, sym, ap, ◌∙◌, subst, append_assoc, arith}
+use Rattle.std.proofs.Common.{◌≡◌, ℕ, ◌+◌, ◌<◌, ◌≤◌, ◌⊎◌, ◌^◌, inl, inr, List, [], ◌∷◌, ◌++◌, Option, length, get_or, take, drop, refl, sym, ap, ◌∙◌, subst, append_assoc, arith}
 use Rattle.std.specs.Prelude.{sum_by}
 use Rattle.std.proofs.lemmas.List.{append-nil, drop_all, take_all, take_more}
 use Rattle.std.proofs.lemmas.List.Sums.{sum_by_push}
 use Rattle.hog_json.specs.Lines.{ended}
+use Rattle.cyclotron_jobs.specs.declared.entry.Entry.{Entry}
+use Rattle.cyclotron_jobs.specs.declared.row.Row.{Row}
+use Rattle.script_steps.specs.declared.said.Held.{Held}
 use Rattle.script_steps.specs.declared.said.Said.{Said}
 use Rattle.script_reader.specs.declared.step.Step.{Step}
 use Rattle.script_steps.specs.Lines.{step_line, step_lines}
 use Rattle.script_steps.specs.Play.{Stage, Acts, PlaysOn, RoseBy, faults_in}
 use Rattle.script_steps.specs.Plays.{PlaysPart, Some_steps, empty_stage}
+
+-- stages are the same where their parts are
+abbrev stage_with : List Row → List Entry → List (Option Held) → Stage
+stage_with rows history hands = record { rows = rows; history = history; hands = hands }
+
+pub same_stage : (a b : Stage) → a.rows ≡ b.rows → a.history ≡ b.history → a.hands ≡ b.hands → a ≡ b
+same_stage a b rows history hands =
+    ap (λ (r : List Row). stage_with r a.history a.hands) rows
+    ∙ ap (λ (h : List Entry). stage_with b.rows h a.hands) history
+    ∙ ap (λ (hs : List (Option Held)). stage_with b.rows b.history hs) hands
 
 pub PlaysOn-push : (steps : List Step) (s : Step) (first old new : Stage) (saids : List Said) (said : Said)
     → PlaysOn steps first saids old → Acts s old said new → PlaysOn (steps ++ s ∷ []) first (saids ++ said ∷ []) new

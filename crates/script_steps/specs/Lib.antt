@@ -1,6 +1,5 @@
-pub mod Course
-pub mod CourseLaws
-pub mod Book
 pub mod Play
+pub mod Free
+pub mod Headline
 pub mod Lines
 pub mod Plays

@@ -15,7 +15,7 @@ use Rattle.cyclotron_jobs.specs.declared.entry.Entry.TheVariants as entry
 use Rattle.cyclotron_jobs.specs.declared.refused.LeaseStop.{LeaseStop}
 use Rattle.cyclotron_jobs.specs.declared.refused.LeaseStop.TheVariants as stop
 use Rattle.script_steps.specs.declared.said.Said.{Said}
-use Rattle.script_steps.specs.declared.said.Said.TheVariants.{Job, Full, Taken, Busy, Nothing, Idle, Fine, Sliced, Asks, Ended, Poisoned, Refused, Keeper}
+use Rattle.script_steps.specs.declared.said.Said.TheVariants.{Job, Full, Taken, Busy, Nothing, Idle, Fine, Sliced, Asks, Ended, Answered, Poisoned, Refused, Keeper}
 use Rattle.script_reader.specs.declared.step.Step.{Step}
 use Rattle.script_reader.specs.declared.step.Step.TheVariants as step
 
@@ -55,6 +55,7 @@ said_text Fine = codes "ok"
 said_text (Sliced ops) = codes "sliced " ++ decimal ops
 said_text (Asks ops) = codes "asks " ++ decimal ops
 said_text (Ended ops) = codes "ended " ++ decimal ops
+said_text (Answered status) = decimal status
 said_text (Poisoned job) = decimal job ++ codes " poisoned"
 said_text (Refused stop) = stop_text stop
 said_text Keeper = codes "keeper"

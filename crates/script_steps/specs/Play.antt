@@ -2,6 +2,7 @@
 use Rattle.std.specs.Prelude.{◌≡◌, ◌≢◌, ℕ, ◌+◌, ◌<◌, ◌≤◌, ◌⊎◌, ◌^◌, ℤ, List, [], ◌∷◌, ◌++◌, Option, Some, None, IsNone, IsSome, slice_get, slice_set}
 use Rattle.lock_ids.specs.declared.lock.LockId.{LockId}
 use Rattle.cyclotron_jobs.specs.declared.input.JobInput.{JobInput}
+use Rattle.cyclotron_jobs.specs.declared.input.Reply.{Reply}
 use Rattle.cyclotron_jobs.specs.declared.row.Row.{Row}
 use Rattle.cyclotron_jobs.specs.declared.row.QueueName.{QueueName}
 use Rattle.cyclotron_jobs.specs.declared.row.QueueName.TheVariants as queue
@@ -14,17 +15,19 @@ use Rattle.cyclotron_jobs.specs.declared.entry.Entry.TheVariants as entry
 use Rattle.cyclotron_jobs.specs.declared.refused.LeaseStop.{LeaseStop}
 use Rattle.cyclotron_jobs.specs.declared.refused.LeaseStop.TheVariants as stop
 use Rattle.cyclotron_jobs.specs.Course.{next_of}
-use Rattle.cyclotron_jobs.specs.Leases.{LeaseOf, AdvanceOf}
+use Rattle.cyclotron_jobs.specs.Leases.{LeaseOf, AdvanceOf, AnsweredOf}
 use Rattle.queue_history.specs.Facts.{facts_of, jobs_of, takes_of}
 use Rattle.queue_history.specs.Due.{NoneDue, IsFirstDue, NoneStale, IsFirstStale}
 use Rattle.queue_history.specs.Rows.{IsNewRow}
 use Rattle.cyclotron_core.specs.Queue.{QueueOf}
-use Rattle.cyclotron_core.specs.Changes.{row_after_take, row_after_beat, row_after_run, row_after_put_back, row_after_sweep, lease_of}
-use Rattle.cyclotron_core.specs.Refusals.{IsOwner, RunBegan, Refuses}
-use Rattle.script_steps.specs.Course.{IsWork}
+use Rattle.cyclotron_core.specs.Changes.{row_after_take, row_after_beat, row_after_run, row_after_reply, row_after_put_back, row_after_sweep, lease_of}
+use Rattle.cyclotron_core.specs.Refusals.{IsOwner, RunBegan, AnswerBegan, Refuses}
+use Rattle.hog_worker.specs.Work.{IsWork}
 use Rattle.script_steps.specs.declared.said.Held.{Held}
+use Rattle.script_steps.specs.declared.said.Product.{Product}
+use Rattle.script_steps.specs.declared.said.Product.TheVariants as kind
 use Rattle.script_steps.specs.declared.said.Said.{Said}
-use Rattle.script_steps.specs.declared.said.Said.TheVariants.{Job, Full, Taken, Busy, Nothing, Idle, Fine, Sliced, Asks, Ended, Poisoned, Refused, Keeper}
+use Rattle.script_steps.specs.declared.said.Said.TheVariants.{Job, Full, Taken, Busy, Nothing, Idle, Fine, Sliced, Asks, Ended, Answered, Poisoned, Refused, Keeper}
 use Rattle.script_reader.specs.declared.step.Step.{Step}
 use Rattle.script_reader.specs.declared.step.Step.TheVariants as step
 
@@ -100,7 +103,7 @@ pub record TakesFirst (on : QueueName) (now : ℕ) (old new : Place) (lock : Loc
   pub there : slice_get old.rows lock.job ≡ Some before
   pub rows : new.rows ≡ slice_set old.rows lock.job (row_after_take lock now before)
   pub history : new.history ≡ old.history ++ entry.Taken lock.job on lock now ∷ []
-  pub held : new.hand ≡ Some (record { lock = lock; lease = lease_of lock before; run = None })
+  pub held : new.hand ≡ Some (record { lock = lock; lease = lease_of lock before; product = None })
 
 abbrev pub Takes : QueueName → ℕ → Place → Said → Place → Type 0
 Takes on now old (Taken lock) new = (old.hand ≡ None) × TakesFirst on now old new lock
@@ -145,12 +148,16 @@ Backs at old Fine new = GoneBack at old new
 Backs at old (Refused stop) new = RefusedUnder old new stop
 Backs at old said new = ⊥
 
--- the worker holds a lease on hog, and no run
-pub record CanWork (hand : Option Held) : Type 0 where
+-- the worker holds a lease on a queue, and no product
+pub record CanMake (on : QueueName) (hand : Option Held) : Type 0 where
   pub held : Held
   pub is : hand ≡ Some held
-  pub on_hog : held.lease.queue ≡ queue.Hog
-  pub free : held.run ≡ None
+  pub leased : held.lease.queue ≡ on
+  pub free : held.product ≡ None
+
+-- the worker holds a product of its lease then
+abbrev pub holding : Held → Product → Option Held
+holding held product = Some (record { lock = held.lock; lease = held.lease; product = Some product })
 
 abbrev pub said_of : After → ℕ → Said
 said_of after.Hog ops = Sliced ops
@@ -159,43 +166,66 @@ said_of after.Finished ops = Ended ops
 
 -- the worker holds the run of a slice of work on its lease then
 pub record Worked (slice : ℕ) (old : Place) (said : Said) (new : Place) : Type 0 where
-  pub can : CanWork old.hand
+  pub can : CanMake queue.Hog old.hand
   pub run : AdvanceOf
   pub work : IsWork can.held.lease slice run
   pub word : said ≡ said_of run.after run.to
-  pub hands : Hands old new (Some (record { lock = can.held.lock; lease = can.held.lease; run = Some run }))
+  pub hands : Hands old new (holding can.held (kind.Run run))
 
 abbrev pub Works : ℕ → Place → Said → Place → Type 0
-Works slice old said new = ((said ≡ Idle) × ¬ (CanWork old.hand) × Stays old new) ⊎ Worked slice old said new
+Works slice old said new = ((said ≡ Idle) × ¬ (CanMake queue.Hog old.hand) × Stays old new) ⊎ Worked slice old said new
 
--- the worker holds a run
-pub record HoldsRun (hand : Option Held) : Type 0 where
+-- the reply to the request of a lease
+abbrev pub answer_to : LeaseOf → Reply → AnsweredOf
+answer_to lease reply = record { input = lease.input; replies = lease.replies; from = lease.ops; reply = reply }
+
+-- the worker holds the step's reply to the request of its lease then
+pub record Replied (reply : Reply) (old : Place) (said : Said) (new : Place) : Type 0 where
+  pub can : CanMake queue.Fetch old.hand
+  pub word : said ≡ Answered reply.status
+  pub hands : Hands old new (holding can.held (kind.Reply (answer_to can.held.lease reply)))
+
+abbrev pub Replies : Reply → Place → Said → Place → Type 0
+Replies reply old said new = ((said ≡ Idle) × ¬ (CanMake queue.Fetch old.hand) × Stays old new) ⊎ Replied reply old said new
+
+-- the worker holds a product
+pub record HoldsProduct (hand : Option Held) : Type 0 where
   pub held : Held
   pub is : hand ≡ Some held
-  pub run : AdvanceOf
-  pub made : held.run ≡ Some run
+  pub product : Product
+  pub made : held.product ≡ Some product
+
+-- the product began at the committed state of the job
+abbrev pub ProductBegan : List Row → ℕ → Product → Type 0
+ProductBegan rows job (kind.Run run) = RunBegan rows job run
+ProductBegan rows job (kind.Reply answered) = AnswerBegan rows job answered
+
+-- the row of a job after the flush of a product
+abbrev pub row_after : Product → Row → Row
+row_after (kind.Run run) = row_after_run run
+row_after (kind.Reply answered) = row_after_reply answered.reply
+
+-- the entry of the flush of a product
+abbrev pub entry_of : LockId → Product → Entry
+entry_of lock (kind.Run run) = entry.Ran lock.job lock run.from run.to (next_of run.after)
+entry_of lock (kind.Reply answered) = entry.Replied lock.job lock answered.reply
 
 pub record Flushed (old new : Place) : Type 0 where
-  pub holds : HoldsRun old.hand
+  pub holds : HoldsProduct old.hand
   pub owner : IsOwner old.history holds.held.lock
-  pub began : RunBegan old.rows holds.held.lock.job holds.run
-  pub step : Appends old new holds.held.lock.job (row_after_run holds.run)
-      (entry.Ran holds.held.lock.job holds.held.lock holds.run.from holds.run.to (next_of holds.run.after)) None
+  pub began : ProductBegan old.rows holds.held.lock.job holds.product
+  pub step : Appends old new holds.held.lock.job (row_after holds.product) (entry_of holds.held.lock holds.product) None
 
 pub record RefusedFlush (old new : Place) (stop : LeaseStop) : Type 0 where
-  pub holds : HoldsRun old.hand
-  pub refused : IsRefused old.history holds.held.lock (RunBegan old.rows holds.held.lock.job holds.run) stop
+  pub holds : HoldsProduct old.hand
+  pub refused : IsRefused old.history holds.held.lock (ProductBegan old.rows holds.held.lock.job holds.product) stop
   pub stays : Stays old new
 
 abbrev pub Flushes : Place → Said → Place → Type 0
-Flushes old Idle new = ¬ (HoldsRun old.hand) × Stays old new
+Flushes old Idle new = ¬ (HoldsProduct old.hand) × Stays old new
 Flushes old Fine new = Flushed old new
 Flushes old (Refused stop) new = RefusedFlush old new stop
 Flushes old said new = ⊥
-
--- no program of sums asks for a reply, so there is never one to answer
-abbrev pub Replies : Place → Said → Place → Type 0
-Replies old said new = (said ≡ Idle) × Stays old new
 
 abbrev pub Loses : Place → Said → Place → Type 0
 Loses old Idle new = (old.hand ≡ None) × Stays old new
@@ -260,7 +290,7 @@ Moves (step.Enqueue input rank at) = Enqueues input rank at
 Moves (step.Take worker on now) = Takes on now
 Moves (step.Beat worker now) = Beats now
 Moves (step.Work worker slice) = Works slice
-Moves (step.Answer worker reply) = Replies
+Moves (step.Answer worker reply) = Replies reply
 Moves (step.Flush worker) = Flushes
 Moves (step.Sweep now) = Sweeps now
 Moves (step.Lose worker) = Loses

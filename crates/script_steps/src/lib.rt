@@ -1,20 +1,17 @@
-//! Plays of scripts on a queue: the course of jobs whose programs are sums, slices of work on their leases, and steps.
-//! Stands on script_reader for scripts, on cyclotron_core and the crates below it, and on hog_program and hog_sums.
-//! Above, `play` gives the queue at the end of a script and its lines (`Plays` of specs/Plays.antt); `work` gives the run
-//! of a slice on a lease (`IsWork` of specs/Course.antt); and `keeps_the_meaning` says of every queue over `HogCourse`
-//! that its history is legal and its rows agree with the meanings of their programs (`KeepsTheMeaning`).
+//! Plays of scripts on a queue: what each step does, under leases that may be lost or forged, and the lines of all steps.
+//! Stands on script_reader for scripts, on hog_worker and hog_jobs for slices of work, and on cyclotron_core and those below.
+//! Above, `play` gives the queue at the end of a script and its lines (`Plays` of specs/Plays.antt). Each queue over `HogCourse`
+//! keeps the meaning of its jobs (`keeps_the_meaning`), and specs/Headline.antt says what a flush does under a lock that is
+//! live, and under one that isn't.
 #![tactic(auto)]
 
-pub mod course;
+pub mod laws;
 mod lines;
 pub mod player;
 pub mod said;
 mod steps;
 #[cfg(test)]
 mod tests;
-pub mod worker;
 
-pub use course::{HogCourse, keeps_the_meaning, rows_agree};
 pub use player::{Played, play};
-pub use said::{Held, Said};
-pub use worker::work;
+pub use said::{Held, Product, Said};

@@ -8,12 +8,12 @@ ghost use Rattle.line_writer.specs.Added.{Adds, AddsPrefix};
 ghost use Rattle.lock_ids.specs.Lock.{id_text};
 ghost use Rattle.script_steps.specs.Lines.{backs_text, closing_lines, count_of, counts_line, job_line, kind_of, lock_text, poisoned_line, poisoned_lines, row_lines, said_text, state_text, step_line, stop_text, word_of};
 
-use crate::course::HogCourse;
 use crate::said::Said;
 use cyclotron_core::queue::QueueState;
 use cyclotron_jobs::entry::Entry;
 use cyclotron_jobs::refused::LeaseStop;
 use cyclotron_jobs::row::{JobState, QueueName, Row};
+use hog_jobs::HogCourse;
 use hog_outside::Sink;
 use job_keeper::keeper::Keeper;
 use line_writer::{OutputStop, write_shown, write_whole};
@@ -92,6 +92,7 @@ fn push_said(alloc: Global, line: &mut String, said: Said) -> Result<(), AllocEr
         Said::Sliced(ops) => push_number(line, "sliced ", ops),
         Said::Asks(ops) => push_number(line, "asks ", ops),
         Said::Ended(ops) => push_number(line, "ended ", ops),
+        Said::Answered(status) => write!(line, "{status}"),
         Said::Poisoned(job) => write!(line, "{job} poisoned"),
         Said::Refused(stop) => push_stop(alloc, line, stop),
         Said::Keeper => line.push_str("keeper"),

@@ -3,14 +3,16 @@
 ghost use Rattle.std.specs.Prelude.{◌≡◌, ◌≤◌, ℕ, List, length, replicate, Option, None, IfOk};
 ghost use Rattle.hog_outside.specs.Faults.{Rose};
 ghost use Rattle.line_writer.specs.Added.{Adds, AddsPrefix};
-ghost use Rattle.script_steps.specs.Book.{KeepsTheMeaning};
+ghost use Rattle.hog_jobs.specs.Rows.{KeepsTheMeaning};
+ghost use Rattle.script_steps.specs.Headline.{DeadFlushChangesNothing, LiveFlushIsDone};
 ghost use Rattle.script_steps.specs.Plays.{Plays, PlaysPart};
 
-use crate::course::{HogCourse, keeps_the_meaning};
+use crate::laws::{dead_flush, keeps_the_meaning, live_flush};
 use crate::lines::{write_closing, write_step};
 use crate::said::Held;
 use crate::steps::act;
 use cyclotron_core::queue::QueueState;
+use hog_jobs::HogCourse;
 use hog_outside::Sink;
 use job_keeper::keeper::Keeper;
 use line_writer::OutputStop;
@@ -51,12 +53,21 @@ pub fn play<K: Keeper, W: Sink>(
     ensures prefix { (out : List ℕ) × PlaysPart script.now out
         × AddsPrefix (W.taken sink.old) (W.taken sink.new) out }
 
-    // Whatever was played, the queue keeps the meaning of its jobs' programs.
+    // Whatever was played: each job's committed trace is a beginning of the meaning of its source on its committed
+    // replies, and a completed job's trace and end are that meaning.
     ensures meaning { IfOk result (λ played. KeepsTheMeaning played.jobs.rows played.jobs.history) }
+
+    // What a flush does wherever it comes among the steps.
+    ensures dead_flush { DeadFlushChangesNothing }
+    ensures live_flush { LiveFlushIsDone }
+
+    // A write fails only by a fault of the sink, whose count never falls.
     ensures failed { result ≡ Err OutputStop.Failed
         → Rose (W.faults sink.old) (W.faults sink.new) }
     ensures count { W.faults sink.old ≤ W.faults sink.new }
 {
+    dead_flush();
+    live_flush();
     let mut hands = empty_hands(alloc)?;
     let mut queue = QueueState::new(alloc, keeper);
     for step in script.steps() {

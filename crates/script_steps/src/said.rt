@@ -1,17 +1,24 @@
 //! What workers hold, and what a step says.
 
-use crate::course::HogCourse;
-use cyclotron_jobs::lease::{Advance, Lease};
+use cyclotron_jobs::lease::{Advance, Answered, Lease};
 use cyclotron_jobs::refused::LeaseStop;
+use hog_jobs::HogCourse;
 use lock_ids::lock::LockId;
 
+/// What a worker has made of its lease and is still to flush: the run of a slice, or the reply to its request.
+#[derive(Drop)]
+pub enum Product {
+    Run(Advance<HogCourse>),
+    Reply(Answered<HogCourse>),
+}
+
 /// What a worker holds: a lease, the lock under which it acts, which is another one than the lease's where it was
-/// forged, and a run that is still to be flushed.
+/// forged, and a product that is still to be flushed.
 #[derive(Drop)]
 pub struct Held {
     pub lock: LockId,
     pub lease: Lease<HogCourse>,
-    pub run: Option<Advance<HogCourse>>,
+    pub product: Option<Product>,
 }
 
 /// What a step's line says behind the step's word.
@@ -35,6 +42,8 @@ pub enum Said {
     Sliced(u64),
     Asks(u64),
     Ended(u64),
+    /// The request has a reply of this status.
+    Answered(u16),
     /// The job was swept for the third time.
     Poisoned(u32),
     /// A call under the lock was refused.

@@ -1,25 +1,31 @@
 //! What each step says and does.
 
-ghost use Rattle.std.specs.Prelude.{◌≡◌, ◌≤◌, ◌<◌, ◌↔◌, ℕ, List, length, slice_get, Some, None, IfOk, IfSome, IsSome, IsTrue};
+ghost use Rattle.std.specs.Prelude.{◌≡◌, ◌≤◌, ◌<◌, ◌↔◌, ℕ, List, length, slice_get, Some, None, IfOk, IfErr, OnOk, OnErr, IfSome, IsSome, IsTrue};
+ghost use Rattle.std.specs.List.{All};
 ghost use Rattle.cyclotron_jobs.specs.declared.entry.Entry.{Entry};
 ghost use Rattle.cyclotron_jobs.specs.declared.row.Row.{Row};
-ghost use Rattle.script_reader.specs.Programs.{IsInput};
+ghost use Rattle.cyclotron_core.specs.Changes.{IsOneStep, IsUntouched};
+ghost use Rattle.cyclotron_core.specs.Refusals.{IsOwner, KeeperRose, Refuses};
+ghost use Rattle.hog_jobs.specs.Inputs.{IsInput};
 ghost use Rattle.script_reader.specs.Steps.{IsFit};
-ghost use Rattle.script_steps.specs.Play.{Acts, Backs, Beats, Enqueues, Flushes, Forges, Loses, Moves, RoseBy, Sweeps, Takes, Works, faults_in, place_at, place_of, said_of, stage_of, worker_of};
+ghost use Rattle.script_steps.specs.Free.{HandIsFree, IsFree};
+ghost use Rattle.script_steps.specs.Play.{Acts, Backs, Beats, Enqueues, Flushes, Forges, Loses, Moves, ProductBegan, Replies, RoseBy, Sweeps, Takes, Works, answer_to, entry_of, faults_in, place_at, place_of, row_after, said_of, stage_of, worker_of};
 
-use crate::course::HogCourse;
-use crate::said::{Held, Said};
-use crate::worker::work;
+use crate::said::{Held, Product, Said};
 use cyclotron_core::queue::QueueState;
 use cyclotron_core::stop::{EnqueueStop, TakeStop};
-use cyclotron_jobs::input::JobInput;
-use cyclotron_jobs::lease::{Advance, Lease};
-use cyclotron_jobs::refused::LeaseStop;
+use cyclotron_jobs::input::{JobInput, Reply};
+use cyclotron_jobs::lease::{Advance, Answered, Lease};
+use cyclotron_jobs::refused::{LeaseStop, Refused};
 use cyclotron_jobs::row::{After, JobState, QueueName};
+use hog_jobs::HogCourse;
+use hog_jobs::laws::kept_globals;
+use hog_worker::work;
 use job_keeper::keeper::Keeper;
 use lock_ids::lock::LockId;
 use script_reader::Step;
 use std::alloc::{AllocError, Global};
+use std::marker::PhantomData;
 
 /// Adds a job with a copy of the input.
 fn enqueue<K: Keeper>(
@@ -97,12 +103,12 @@ fn take<K: Keeper>(
 
 /// What a worker holds of a lease that it took.
 fn held_of(lease: Lease<HogCourse>) -> Held
-    ensures { result ≡ record { lock = lease.lock; lease = lease; run = None } }
+    ensures { result ≡ record { lock = lease.lock; lease = lease; product = None } }
 {
     Held {
         lock: lease.lock,
         lease,
-        run: None,
+        product: None,
     }
 }
 
@@ -151,11 +157,11 @@ fn back<K: Keeper>(
     }
 }
 
-/// Whether what a worker holds can be worked on: a lease on hog, with no run of it.
-fn can_work(held: &Held) -> bool
-    ensures { IsTrue result ↔ ((held.now.lease.queue ≡ QueueName.Hog) × (held.now.run ≡ None)) }
+/// Whether a worker can make a product: it holds a lease on the queue, and no product of it.
+fn can_make(held: &Held, on: QueueName) -> bool
+    ensures { IsTrue result ↔ ((held.now.lease.queue ≡ on) × (held.now.product ≡ None)) }
 {
-    held.lease.queue == QueueName::Hog && held.run.is_none()
+    held.lease.queue == on && held.product.is_none()
 }
 
 /// What is said of a run.
@@ -178,16 +184,82 @@ fn work_on(alloc: Global, hand: &mut Option<Held>, slice: u32) -> Result<Said, A
     let Some(held) = hand else {
         return Ok(Said::Idle);
     };
-    if !can_work(held) {
+    if !can_make(held, QueueName::Hog) {
         return Ok(Said::Idle);
     }
     let run = work(alloc, &held.lease, slice)?;
     let said = said_of(&run);
-    held.run = Some(run);
+    held.product = Some(Product::Run(run));
     Ok(said)
 }
 
-/// Flushes the worker's run under the worker's lock.
+/// A reply to the request of a lease whose job takes any.
+fn answer_to(lease: &Lease<HogCourse>, reply: &Reply) -> Result<Answered<HogCourse>, AllocError>
+    requires { IsFree lease.now.input }
+    ensures { IfOk result (λ answered. answered ≡ answer_to lease.now reply.now) }
+{
+    Ok(Answered {
+        input: lease.input.copy()?,
+        replies: lease.replies.copy()?,
+        from: lease.ops,
+        reply: reply.copy()?,
+        twin: reply.copy()?,
+        course: PhantomData,
+    })
+}
+
+/// Answers the request of the worker's lease.
+fn answer(hand: &mut Option<Held>, reply: &Reply) -> Result<Said, AllocError>
+    requires { HandIsFree hand.old }
+    ensures { (rows : List Row) (history : List Entry) →
+        IfOk result (λ said. Replies reply.now (place_at rows history hand.old) said (place_at rows history hand.new)) }
+{
+    let Some(held) = hand else {
+        return Ok(Said::Idle);
+    };
+    if !can_make(held, QueueName::Fetch) {
+        return Ok(Said::Idle);
+    }
+    let answered = answer_to(&held.lease, reply)?;
+    held.product = Some(Product::Reply(answered));
+    Ok(Said::Answered(reply.status))
+}
+
+/// Flushes a product under a lock. A refusal hands it back.
+fn flush_product<K: Keeper>(
+    queue: &mut QueueState<HogCourse, K>,
+    lock: LockId,
+    product: Product,
+) -> Result<(), Refused<Product>>
+    ensures ok { OnOk result (IsOneStep K.tells K.held queue.old queue.new lock.job
+        (row_after product) (entry_of lock product)) }
+    ensures owner { OnOk result (IsOwner queue.old.history lock) }
+    ensures began { OnOk result (ProductBegan queue.old.rows lock.job product) }
+    ensures refused { IfErr result (λ r. Refuses queue.old.history lock
+        (ProductBegan queue.old.rows lock.job product) (KeeperRose K.faults queue.old queue.new) r.stop) }
+    ensures back { IfErr result (λ r. r.back ≡ product) }
+    ensures err { OnErr result (IsUntouched K.tells K.held queue.old queue.new) }
+    ensures count { K.faults queue.old.keeper ≤ K.faults queue.new.keeper }
+{
+    match product {
+        Product::Run(run) => match queue.flush_run(lock, run) {
+            Ok(()) => Ok(()),
+            Err(refused) => Err(Refused {
+                stop: refused.stop,
+                back: Product::Run(refused.back),
+            }),
+        },
+        Product::Reply(answered) => match queue.flush_reply(lock, answered) {
+            Ok(()) => Ok(()),
+            Err(refused) => Err(Refused {
+                stop: refused.stop,
+                back: Product::Reply(refused.back),
+            }),
+        },
+    }
+}
+
+/// Flushes the worker's product under the worker's lock.
 fn flush<K: Keeper>(
     queue: &mut QueueState<HogCourse, K>,
     hand: &mut Option<Held>,
@@ -198,16 +270,16 @@ fn flush<K: Keeper>(
     let Some(held) = hand else {
         return Ok(Said::Idle);
     };
-    let Some(run) = held.run.take() else {
+    let Some(product) = held.product.take() else {
         return Ok(Said::Idle);
     };
-    match queue.flush_run(held.lock, run) {
+    match flush_product(queue, held.lock, product) {
         Ok(()) => {
             *hand = None;
             Ok(Said::Fine)
         }
         Err(refused) => {
-            held.run = Some(refused.back);
+            held.product = Some(refused.back);
             match refused.stop {
                 LeaseStop::OutOfMemory => Err(AllocError),
                 stop => Ok(Said::Refused(stop)),
@@ -272,6 +344,7 @@ fn act_alone<K: Keeper>(
     ensures acts { IfOk result (λ said. Moves step.now (place_of queue.old None) said (place_of queue.new None)) }
     ensures faults { IfOk result (λ said. RoseBy (faults_in said) (K.faults queue.old.keeper) (K.faults queue.new.keeper)) }
 {
+    kept_globals();
     match step {
         Step::Enqueue {
             input,
@@ -292,6 +365,7 @@ fn act_by<K: Keeper>(
 ) -> Result<Said, AllocError>
     requires fit { IsFit step.now }
     requires by { IsSome (worker_of step.now) }
+    requires free { HandIsFree hand.old }
     ensures acts { IfOk result (λ said. Moves step.now (place_of queue.old hand.old) said (place_of queue.new hand.new)) }
     ensures faults { IfOk result (λ said. RoseBy (faults_in said) (K.faults queue.old.keeper) (K.faults queue.new.keeper)) }
 {
@@ -299,7 +373,7 @@ fn act_by<K: Keeper>(
         Step::Take { queue: on, now, .. } => take(queue, hand, *on, *now),
         Step::Beat { now, .. } => beat(queue, hand, *now),
         Step::Work { slice, .. } => work_on(alloc, hand, *slice),
-        Step::Answer { .. } => Ok(Said::Idle),
+        Step::Answer { reply, .. } => answer(hand, reply),
         Step::Flush { .. } => flush(queue, hand),
         Step::Lose { .. } => Ok(lose(hand)),
         Step::Forge { job, draw, .. } => Ok(forge(hand, LockId::of(*job, *draw))),
@@ -317,6 +391,7 @@ pub(crate) fn act<K: Keeper>(
 ) -> Result<Said, AllocError>
     requires fit { IsFit step.now }
     requires hands { length hands.old ≡ 16 }
+    requires free { All HandIsFree hands.old }
     ensures acts { IfOk result (λ said. Acts step.now (stage_of queue.old hands.old) said (stage_of queue.new hands.new)) }
     ensures faults { IfOk result (λ said. RoseBy (faults_in said) (K.faults queue.old.keeper) (K.faults queue.new.keeper)) }
 {

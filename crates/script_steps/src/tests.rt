@@ -1,9 +1,16 @@
+ghost use Rattle.std.specs.Prelude.{◌≤◌};
+
 use crate::player::play;
+use cyclotron_core::queue::QueueState;
+use cyclotron_jobs::row::{JobState, QueueName};
+use hog_jobs::HogCourse;
 use hog_outside::MemSink;
-use job_keeper::MemKeeper;
+use hog_value::trace::End;
+use hog_worker::work;
+use job_keeper::{MemKeeper, NoKeeper};
 use line_writer::OutputStop;
 use script_reader::read_script;
-use std::alloc::Global;
+use std::alloc::{AllocError, Global};
 use std::test::Fail;
 
 /// A job that is swept once and then done, with five rows for the keeper.
@@ -58,11 +65,101 @@ fn lines_of_scripts(rt: HostRuntime) -> Result<(), Fail> {
             "[[\"enqueue\",\"return 1;\",{},0,0],[\"take\",0,\"hog\",0],[\"sweep\",30000],[\"back\",0,5],[\"work\",0,9],[\"work\",0,9]]",
             "enqueue 0\ntake 0 00000000-0000-0000-0000-000000000001\nsweep 0\nback wrong lock none\nwork ended 3\nwork idle\njob 0 available hog\nentries queued 1 taken 1 beat 0 ran 0 replied 0 swept 1\n",
         ),
+        (
+            "[[\"enqueue\",\"let d := {}; d.me := d; let e := [d, d]; print(d); fetch('https://h/'); e[1].x := 2; return e[2].x;\",{},0,0],[\"take\",0,\"hog\",0],[\"work\",0,1000],[\"flush\",0],[\"take\",1,\"fetch\",0],[\"answer\",1,200,null],[\"flush\",1],[\"take\",2,\"hog\",0],[\"work\",2,1000],[\"flush\",2]]",
+            "enqueue 0\ntake 0 00000000-0000-0000-0000-000000000001\nwork asks 14\nflush ok\ntake 0 00000000-0000-0000-0000-000000000002\nanswer 200\nflush ok\ntake 0 00000000-0000-0000-0000-000000000003\nwork ended 28\nflush ok\njob 0 completed\nprint \"{'me': <cycle>}\"\nrequest \"https://h/\" \"null\"\nresult \"2\"\nentries queued 1 taken 3 beat 0 ran 2 replied 1 swept 0\n",
+        ),
+        (
+            "[[\"enqueue\",\"let r := fetch('https://h/'); return r.status;\",{},0,0],[\"take\",0,\"hog\",0],[\"work\",0,1000],[\"flush\",0],[\"take\",0,\"fetch\",0],[\"sweep\",30000],[\"take\",1,\"fetch\",30000],[\"answer\",1,200,null],[\"flush\",1],[\"take\",1,\"hog\",30000],[\"answer\",0,500,null],[\"flush\",0],[\"forge\",0,0,4],[\"flush\",0],[\"forge\",0,7,1],[\"flush\",0],[\"work\",1,1000],[\"flush\",1]]",
+            "enqueue 0\ntake 0 00000000-0000-0000-0000-000000000001\nwork asks 3\nflush ok\ntake 0 00000000-0000-0000-0000-000000000002\nsweep 0\ntake 0 00000000-0000-0000-0000-000000000003\nanswer 200\nflush ok\ntake 0 00000000-0000-0000-0000-000000000004\nanswer 500\nflush wrong lock 00000000-0000-0000-0000-000000000004\nforge ok\nflush not this run\nforge ok\nflush unknown job\nwork ended 8\nflush ok\njob 0 completed\nrequest \"https://h/\" \"null\"\nresult \"200\"\nentries queued 1 taken 4 beat 0 ran 2 replied 1 swept 1\n",
+        ),
+        (
+            "[[\"enqueue\",\"let r := fetch('https://h/'); return r.status;\",{},0,0],[\"take\",0,\"hog\",0],[\"work\",0,1000],[\"flush\",0],[\"take\",0,\"fetch\",0],[\"back\",0,1000],[\"take\",1,\"fetch\",999],[\"take\",1,\"fetch\",1000],[\"answer\",1,200,null],[\"flush\",1],[\"take\",1,\"hog\",1000],[\"work\",1,1000],[\"flush\",1]]",
+            "enqueue 0\ntake 0 00000000-0000-0000-0000-000000000001\nwork asks 3\nflush ok\ntake 0 00000000-0000-0000-0000-000000000002\nback ok\ntake none\ntake 0 00000000-0000-0000-0000-000000000003\nanswer 200\nflush ok\ntake 0 00000000-0000-0000-0000-000000000004\nwork ended 8\nflush ok\njob 0 completed\nrequest \"https://h/\" \"null\"\nresult \"200\"\nentries queued 1 taken 4 beat 0 ran 2 replied 1 swept 0 back 1\n",
+        ),
     ];
     for (script, lines) in rows {
         let (stop, sink) = played(rt.alloc(), script, &[], 1000, &[])?;
         assert_eq!(rt; stop, None, "of {script}");
         assert_eq!(rt; sink.bytes(), lines.as_bytes(), "of {script}");
+    }
+    Ok(())
+}
+
+/// A program that throws the status of its reply, catches it, and throws it anew.
+const THROWN: &str =
+    "[[\"enqueue\",\"fun f() { try { let r := fetch('https://h/'); throw r.status; } catch (e) { throw e + 1; } } try { f(); } catch (e) { return e; }\",{},0,0],[\"take\",0,\"hog\",0],[\"work\",0,1000],[\"flush\",0],[\"take\",1,\"fetch\",0],[\"answer\",1,500,null],[\"flush\",1],[\"take\",2,\"hog\",0],[\"work\",2,1000],[\"flush\",2]]";
+
+#[test]
+fn a_run_that_throws_after_its_reply(rt: HostRuntime) -> Result<(), Fail> {
+    let end =
+        "flush ok\njob 0 completed\nrequest \"https://h/\" \"null\"\nresult \"501\"\nentries queued 1 taken 3 beat 0 ran 2 replied 1 swept 0\n";
+    let (stop, sink) = played(rt.alloc(), THROWN, &[], 1000, &[])?;
+    assert_eq!(rt; stop, None);
+    let start = sink.bytes().len().saturating_sub(end.len());
+    assert_eq!(rt; &sink.bytes()[start..], end.as_bytes());
+    Ok(())
+}
+
+/// The same program, to be carried by slices of one operation.
+const QUEUED: &str =
+    "[[\"enqueue\",\"fun f() { try { let r := fetch('https://h/'); throw r.status; } catch (e) { throw e + 1; } } try { f(); } catch (e) { return e; }\",{},0,0]";
+
+const ONE: &str = ",[\"take\",0,\"hog\",0],[\"work\",0,1],[\"flush\",0]";
+
+const ANSWERED: &str = ",[\"take\",0,\"fetch\",0],[\"answer\",0,500,null],[\"flush\",0]";
+
+/// Adds a text so many times.
+fn add(script: &mut String, text: &str, times: u32) -> Result<(), AllocError> {
+    for _time in 0..times {
+        script.push_str(text)?;
+    }
+    Ok(())
+}
+
+/// Whether a script ends with these lines.
+fn ends_with(alloc: Global, script: &str, end: &str) -> Result<bool, Fail> {
+    let (stop, sink) = played(alloc, script, &[], 100_000, &[])?;
+    let start = sink.bytes().len().saturating_sub(end.len());
+    Ok(stop.is_none() && &sink.bytes()[start..] == end.as_bytes())
+}
+
+/// The machine is saved after every operation, and loaded before the next: eight slices, the reply, and eleven slices.
+#[test]
+fn a_run_that_is_saved_after_every_operation(rt: HostRuntime) -> Result<(), Fail> {
+    let end =
+        "work ended 19\nflush ok\njob 0 completed\nrequest \"https://h/\" \"null\"\nresult \"501\"\nentries queued 1 taken 20 beat 0 ran 19 replied 1 swept 0\n";
+    let mut script = String::from_str(rt.alloc(), QUEUED)?;
+    add(&mut script, ONE, 8)?;
+    add(&mut script, ANSWERED, 1)?;
+    add(&mut script, ONE, 11)?;
+    add(&mut script, "]", 1)?;
+    assert!(rt; ends_with(rt.alloc(), script.as_str(), end)?);
+    Ok(())
+}
+
+/// A slice, and the reply to its request.
+const ROUND: &str =
+    ",[\"take\",0,\"hog\",0],[\"work\",0,1000],[\"flush\",0],[\"take\",0,\"fetch\",0],[\"answer\",0,200,null],[\"flush\",0]";
+
+/// A hundred requests are the most.
+#[test]
+fn most_requests(rt: HostRuntime) -> Result<(), Fail> {
+    let rows = [
+        (
+            "[[\"enqueue\",\"let i := 0; while (i < 100) { fetch('https://h/'); i := i + 1; } return i;\",{},0,0]",
+            "result \"100\"\nentries queued 1 taken 201 beat 0 ran 101 replied 100 swept 0\n",
+        ),
+        (
+            "[[\"enqueue\",\"let i := 0; while (i < 101) { fetch('https://h/'); i := i + 1; } return i;\",{},0,0]",
+            "too many fetches\nentries queued 1 taken 201 beat 0 ran 101 replied 100 swept 0\n",
+        ),
+    ];
+    for (queued, end) in rows {
+        let mut script = String::from_str(rt.alloc(), queued)?;
+        add(&mut script, ROUND, 101)?;
+        add(&mut script, "]", 1)?;
+        assert!(rt; ends_with(rt.alloc(), script.as_str(), end)?);
     }
     Ok(())
 }
@@ -115,6 +212,55 @@ fn a_failing_sink_has_a_prefix(rt: HostRuntime) -> Result<(), Fail> {
         let (stop, sink) = played(rt.alloc(), SWEPT, &[], room, failing)?;
         assert_eq!(rt; stop, Some(OutputStop::Failed));
         assert_eq!(rt; sink.bytes(), lines.as_bytes());
+    }
+    Ok(())
+}
+
+/// Takes the job that is due, works on it for a slice, and flushes the run. Answers whether that was done.
+fn carry(
+    alloc: Global,
+    queue: &mut QueueState<HogCourse, NoKeeper>,
+    slice: u32,
+) -> Result<bool, Fail>
+    requires { 1 ≤ slice }
+{
+    let Some(lease) = queue.take(QueueName::Hog, 0)? else {
+        return Ok(false);
+    };
+    if lease.queue != QueueName::Hog {
+        return Ok(false);
+    }
+    let run = work(alloc, &lease, slice)?;
+    Ok(queue.flush_run(lease.lock, run).is_ok())
+}
+
+/// Each slice goes on from the saved text of the one before: a worker that began at the source each time would not end here.
+#[test]
+fn a_long_loop_goes_on_by_slices(rt: HostRuntime) -> Result<(), Fail> {
+    let alloc = rt.alloc();
+    let source =
+        "[[\"enqueue\",\"let t := 0; while (t < 90000) { t := t + 1; } return t;\",{},0,0]]";
+    let script = read_script(alloc, source.as_bytes())?;
+    let mut sink = MemSink::new(alloc, 1000, Vec::new(alloc))?;
+    let played = play(alloc, &script, NoKeeper, &mut sink)?;
+    let mut queue = played.jobs;
+    for _slice in 0..50_000 {
+        if !carry(alloc, &mut queue, 20)? {
+            break;
+        }
+    }
+    // One entry for the enqueue, and two for each of the 40,501 slices.
+    assert_eq!(rt; queue.history().len(), 81_003);
+    match queue.row(0) {
+        Some(row) => {
+            assert!(rt; row.state == JobState::Completed);
+            assert_eq!(rt; row.ops, 810_008);
+            match &row.shown.end {
+                Some(End::Done(text)) => assert_eq!(rt; text.bytes(), "90000".as_bytes()),
+                _ => assert!(rt; false),
+            }
+        }
+        None => assert!(rt; false),
     }
     Ok(())
 }

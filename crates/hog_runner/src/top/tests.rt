@@ -130,6 +130,12 @@ fn answers(rt: HostRuntime) -> Result<(), Fail> {
             1,
             "refused: step 0: assigns unknown at 0\n",
         ),
+        calm(
+            &["replay"],
+            "[[\"enqueue\",\"let d := {}; d.me := d; let e := [d, d]; print(d); fetch('https://h/'); e[1].x := 2; return e[2].x;\",{},0,0],[\"take\",0,\"hog\",0],[\"work\",0,1000],[\"flush\",0],[\"take\",1,\"fetch\",0],[\"answer\",1,200,null],[\"flush\",1],[\"take\",2,\"hog\",0],[\"work\",2,1000],[\"flush\",2]]",
+            0,
+            "enqueue 0\ntake 0 00000000-0000-0000-0000-000000000001\nwork asks 14\nflush ok\ntake 0 00000000-0000-0000-0000-000000000002\nanswer 200\nflush ok\ntake 0 00000000-0000-0000-0000-000000000003\nwork ended 28\nflush ok\njob 0 completed\nprint \"{'me': <cycle>}\"\nrequest \"https://h/\" \"null\"\nresult \"2\"\nentries queued 1 taken 3 beat 0 ran 2 replied 1 swept 0\n",
+        ),
         // The second read is the one at the end.
         faulty("return 1;", &[1], 1000, &[], 3, ""),
         faulty("return 1;", &[2], 1000, &[], 3, ""),
@@ -159,6 +165,76 @@ fn answer(alloc: Global, word: &str, input: &[u8]) -> Result<(u8, MemSink), Fail
     let mut sink = MemSink::new(alloc, 1000, Vec::new(alloc))?;
     let status = top_still(alloc, &words, &mut source, &mut sink, NoKeeper).status;
     Ok((status, sink))
+}
+
+/// Programs, and what `eval` writes of them.
+const EVALUATED: [(&str, &str); 15] = [
+    (
+        "try { return 9223372036854775807 + 1; } catch (e) { return e.type; }",
+        "result \"IntegerOverflow\"\n",
+    ),
+    // The right operand comes first.
+    (
+        "fun a() { print('a'); return 1; } fun b() { print('b'); return 2; } return a() + b();",
+        "print \"b\"\nprint \"a\"\nresult \"3\"\n",
+    ),
+    (
+        "let x := 1; fun f() { x := x + 1; return x; } f(); return f() + x;",
+        "result \"5\"\n",
+    ),
+    (
+        "let a := [10]; print(a[1], a[2]); return a[0];",
+        "print \"10 null\"\nthrew \"{'type': 'IndexError', 'message': 'index out of range', 'payload': null}\"\n",
+    ),
+    ("while (true) {}", "turns spent\n"),
+    (
+        "fun f(n) { if (n == 256) { return n; } return f(n + 1); } return f(1);",
+        "result \"256\"\n",
+    ),
+    (
+        "fun f(n) { if (n == 257) { return n; } return f(n + 1); } return f(1);",
+        "too deep\n",
+    ),
+    (
+        "let s := 'aaaaaaaa'; while (true) { s := concat(s, s); }",
+        "memory spent\n",
+    ),
+    (
+        "try { while (true) {} } catch (e) { return 1; }",
+        "turns spent\n",
+    ),
+    (
+        "print(upper('a\u{e9}'), splitByString(',', 'a,b'), toInt('12'), toInt('x'), has([1, 2], 2), empty([]), length('n\u{e9}'));",
+        "print \"A\u{e9} ['a', 'b'] 12 null true true 2\"\nresult \"null\"\n",
+    ),
+    (
+        "print(jsonStringify(jsonParse('{\"b\":[1,2.5],\"a\":null}')));",
+        "print \"{\\\"a\\\":null,\\\"b\\\":[1,null]}\"\nresult \"null\"\n",
+    ),
+    (
+        "jsonParse('{');",
+        "threw \"{'type': 'JsonError', 'message': 'bad json', 'payload': null}\"\n",
+    ),
+    ("let f := x -> x * 2; return f(4);", "result \"8\"\n"),
+    ("return fetch('http://h/').body;", "result \"blocked\"\n"),
+    (
+        "print(arrayMap(x -> x * 2, [1, 2]), arrayFilter(x -> x > 1, [1, 2]), arrayExists(x -> x == 3, [1, 2]));",
+        "print \"[2, 4] [2] false\"\nresult \"null\"\n",
+    ),
+];
+
+/// Whether `eval` is done with a source, and writes just this.
+fn writes(alloc: Global, source: &str, written: &str) -> Result<bool, Fail> {
+    let (status, sink) = answer(alloc, "eval", source.as_bytes())?;
+    Ok(status == 0 && sink.bytes() == written.as_bytes())
+}
+
+#[test]
+fn evaluates(rt: HostRuntime) -> Result<(), Fail> {
+    for (source, written) in EVALUATED {
+        assert!(rt; writes(rt.alloc(), source, written)?, "of {source}");
+    }
+    Ok(())
 }
 
 #[test]

@@ -2,4 +2,4 @@ use Rattle.script_reader.proofs.ScriptOrNone.{script_or_none}
 use Rattle.script_reader.proofs.laws.script_or_none.Goals as goal
 
 pub returns : goal.returns
-returns c = script_or_none (record { one_whole = c.one_whole.ensures; built_or_unbuilt = c.built_or_unbuilt.ensures })
+returns c = script_or_none c.built_or_unbuilt.ensures

@@ -1,18 +1,42 @@
-use Rattle.std.proofs.Common.{◌≡◌, ◌≤◌, ◌+◌, ℕ, List, [], ◌∷◌, ◌++◌, Option, length, take, refl, sym, ap, ◌∙◌, subst, arith}
-use Rattle.std.proofs.lemmas.List.{take_all}
+use Rattle.std.proofs.Common.{◌≡◌, ◌≤◌, ◌+◌, ℕ, List, [], ◌∷◌, ◌++◌, Option, Some, None, length, take, refl, sym, ap, ◌∙◌, subst, arith}
+use Rattle.std.specs.List.{All}
+use Rattle.std.specs.Prelude.{sum_by}
+use Rattle.std.proofs.lemmas.List.{append-nil, length-replicate, take_all}
+use Rattle.std.proofs.lemmas.List.Elements.{All-get_or}
 use Rattle.hog_json.specs.Lines.{ended}
 use Rattle.line_writer.specs.Added.{Adds, AddsPrefix}
 use Rattle.line_writer.proofs.AddedLemmas.{Adds-then, AddsPrefix-none, AddsPrefix-all, AddsPrefix-then}
+use Rattle.script_reader.specs.Steps.{IsFit}
 use Rattle.script_reader.specs.declared.step.Step.{Step}
+use Rattle.script_steps.specs.Free.{AreFree, HandIsFree}
 use Rattle.script_steps.specs.Lines.{closing_lines, step_line, step_lines}
-use Rattle.script_steps.specs.Play.{Acts, PlaysOn, Stage, stage_of}
+use Rattle.script_steps.specs.Play.{Acts, PlaysOn, RoseBy, Stage, faults_in, stage_of}
 use Rattle.script_steps.specs.Plays.{All_steps, Plays, PlaysPart, Some_steps, empty_stage}
 use Rattle.script_steps.specs.declared.said.Held.{Held}
-use Rattle.script_steps.proofs.Snoc.{PlaysOn-more, part_none, rose_push, step_lines-more, written}
+use Rattle.script_steps.proofs.FreeLemmas.{acts_free, empty_free}
+use Rattle.script_steps.proofs.Snoc.{PlaysOn-more, part_none, rose_begin, rose_push, same_stage, step_lines-more, written}
 use Rattle.script_steps.proofs.player.play.Goals as goal
 
 pub returns-in_err-hands-clause-prefix : goal.returns-in_err-hands-clause-prefix
 returns-in_err-hands-clause-prefix g c = ([], part_none c.args.script.now, AddsPrefix-none [] refl)
+
+pub loop-step-init : goal.loop-step-init
+loop-step-init g c =
+    let queue = c.new-queue.result in
+    let hands = c.in_ok-hands.hands.items in
+    let begun : stage_of queue hands ≡ empty_stage = same_stage (stage_of queue hands) empty_stage c.new-queue.ensures.rows c.new-queue.ensures.history c.in_ok-hands.ensures in
+    let count : g.K.Keeper.faults c.args.keeper ≡ g.K.Keeper.faults queue.keeper = ap g.K.Keeper.faults (sym c.new-queue.ensures.keeper) in (
+      [],
+      begun,
+      subst (RoseBy (sum_by faults_in []) (g.K.Keeper.faults c.args.keeper)) count (rose_begin (g.K.Keeper.faults c.args.keeper)),
+      λ ys told. told ∙ ap Some (sym (append-nil ys)),
+      omega arith,
+      ap length c.in_ok-hands.ensures ∙ length-replicate {A = Option Held} 16 None,
+      subst AreFree (sym begun) empty_free,
+    )
+
+pub act-requires-clause-free : goal.act-requires-clause-free
+act-requires-clause-free g c = subst (All HandIsFree) (sym c.deref_mut.ensures.value) c.loop-step.invariant.6.hands
 
 pub returns-in_err-said-clause-prefix : goal.returns-in_err-said-clause-prefix
 returns-in_err-said-clause-prefix g c =
@@ -55,13 +79,16 @@ loop-step-preserved g c =
     let next = PlaysOn-more steps i s empty_stage old new inv.0 said c.loop-step-test.true c.step-item.is inv.1 act in
     let lines = step_lines-more steps i s empty_stage old inv.0 said c.loop-step-test.true c.step-item.is inv.1 in
     let as_long : length c.act.new.hands ≡ length hands.items = omega (arith, c.act.auto.hands, ap length c.deref_mut.ensures.value) in
-    let whole = written hands.len c.act.new.hands hands.items as_long hands.ok.0 in (
+    let whole = written hands.len c.act.new.hands hands.items as_long hands.ok.0 in
+    let fits : All IsFit steps = subst (All IsFit) (sym c.steps-step-items.ensures.value) c.steps-step-items.ensures.fit in
+    let fit : IsFit s = subst IsFit (sym c.step-item.is) (All-get_or IsFit steps i s c.loop-step-test.true fits) in (
       inv.0 ++ said ∷ [],
       subst (λ (hs : List (Option Held)). PlaysOn (take (i + 1) steps) empty_stage (inv.0 ++ said ∷ []) (stage_of c.act.new.queue hs)) (sym whole) next,
       rose_push inv.0 said (g.K.Keeper.faults c.args.keeper) (g.K.Keeper.faults c.loop-step.queue.keeper) (g.K.Keeper.faults c.act.new.queue.keeper) inv.2 c.in_ok-said.ensures.faults,
       subst (Adds (g.W.Sink.taken c.args.sink.now) (g.W.Sink.taken c.write_step.new.sink)) (sym lines) (Adds-then inv.3 c.in_ok-write_step.ensures.ok),
       omega (arith, inv.4, c.in_ok-write_step.ensures.count),
       omega (arith, ap length whole, as_long, inv.5),
+      subst (λ (hs : List (Option Held)). AreFree (stage_of c.act.new.queue hs)) (sym whole) (acts_free s old new said fit inv.6 act),
     )
 
 pub returns-in_err-write_closing-clause-prefix : goal.returns-in_err-write_closing-clause-prefix

@@ -1,13 +1,14 @@
 use Rattle.std.proofs.Common.{◌≡◌, ◌≤◌, List, length, take}
 use Rattle.std.specs.Prelude.{sum_by}
 use Rattle.line_writer.specs.Added.{Adds}
+use Rattle.script_steps.specs.Free.{AreFree}
 use Rattle.script_steps.specs.Lines.{step_lines}
 use Rattle.script_steps.specs.Play.{PlaysOn, RoseBy, faults_in, stage_of}
 use Rattle.script_steps.specs.Plays.{empty_stage}
 use Rattle.script_steps.specs.declared.said.Said.{Said}
 use Rattle.script_steps.proofs.player.play.Given as goal
 
--- the steps up to this one were played, and their lines were taken
+-- the steps up to this one were played, their lines were taken, and all jobs take any reply
 abbrev pub invariant-loop-step : goal.invariant-loop-step
 invariant-loop-step g l =
     (saids : List Said)
@@ -16,3 +17,4 @@ invariant-loop-step g l =
     × Adds (g.W.Sink.taken l.fn.sink) (g.W.Sink.taken l.sink) (step_lines (take l.step-index l.step-items) saids)
     × (g.W.Sink.faults l.fn.sink ≤ g.W.Sink.faults l.sink)
     × (length l.hands.items ≡ 16)
+    × AreFree (stage_of l.queue l.hands.items)

@@ -1,8 +1,8 @@
 use Rattle.std.proofs.Common.{◌≡◌, ◌≤◌, IfOk, sym, subst, arith}
 use Rattle.std.proofs.lemmas.Result.{IfOk-weaker}
 use Rattle.script_reader.specs.declared.step.Step.{Step}
-use Rattle.script_steps.specs.Play.{Moves, RoseBy, Works, faults_in, place_at, place_of}
-use Rattle.script_steps.proofs.PlayLemmas.{works_rose, loses_rose, forges_rose}
+use Rattle.script_steps.specs.Play.{Moves, Replies, RoseBy, Works, faults_in, place_at, place_of}
+use Rattle.script_steps.proofs.PlayLemmas.{works_rose, replies_rose, loses_rose, forges_rose}
 use Rattle.script_steps.proofs.steps.act_by.Goals as goal
 
 pub returns-in-Work-clause-acts : goal.returns-in-Work-clause-acts
@@ -19,6 +19,21 @@ returns-in-Work-clause-faults g c =
     let same : count ≤ count = omega arith in
     IfOk-weaker c.work_on.result (λ said. Works c.in-Work.slice old said new) (λ said. RoseBy (faults_in said) count count)
     (λ said works. works_rose c.in-Work.slice old new said count count works same) (c.work_on.ensures queue.rows queue.history)
+
+pub returns-in-Answer-clause-acts : goal.returns-in-Answer-clause-acts
+returns-in-Answer-clause-acts g c =
+    let queue = c.args.queue.now in
+    subst (λ (s : Step). IfOk c.answer.result (λ said. Moves s (place_of queue c.args.hand.now) said (place_of queue c.answer.new.hand))) (sym c.in-Answer.is) (c.answer.ensures queue.rows queue.history)
+
+pub returns-in-Answer-clause-faults : goal.returns-in-Answer-clause-faults
+returns-in-Answer-clause-faults g c =
+    let queue = c.args.queue.now in
+    let count = g.K.Keeper.faults queue.keeper in
+    let old = place_of queue c.args.hand.now in
+    let new = place_of queue c.answer.new.hand in
+    let same : count ≤ count = omega arith in
+    IfOk-weaker c.answer.result (λ said. Replies c.in-Answer.reply old said new) (λ said. RoseBy (faults_in said) count count)
+    (λ said replies. replies_rose c.in-Answer.reply old new said count count replies same) (c.answer.ensures queue.rows queue.history)
 
 pub returns-in-Lose-clause-faults : goal.returns-in-Lose-clause-faults
 returns-in-Lose-clause-faults g c =

@@ -1,15 +1,14 @@
 use Rattle.std.proofs.Common.{◌≡◌, Some, None, Option, sym, ap, ◌∙◌}
-use Rattle.cyclotron_jobs.specs.Leases.{AdvanceOf}
 use Rattle.hog_outside.specs.Faults.{Rose}
-use Rattle.cyclotron_core.specs.Refusals.{RunBegan}
 use Rattle.script_steps.specs.declared.said.Held.{Held}
-use Rattle.script_steps.specs.Play.{HoldsRun}
+use Rattle.script_steps.specs.declared.said.Product.{Product}
+use Rattle.script_steps.specs.Play.{HoldsProduct, ProductBegan}
 use Rattle.script_steps.proofs.PlayLemmas.{appends_of, refused_of, rose_refused}
 use Rattle.script_steps.proofs.steps.flush.Goals as goal
 
 pub returns-in-Ok-clause-acts : goal.returns-in-Ok-clause-acts
 returns-in-Ok-clause-acts g c =
-    let holds : HoldsRun c.args.hand.now = record { held = c.in-Some.held; is = c.in-Some.is; run = c.in-Some-take.run'; made = sym c.take.ensures.value ∙ c.in-Some-take.is } in
+    let holds : HoldsProduct c.args.hand.now = record { held = c.in-Some.held; is = c.in-Some.is; product = c.in-Some-take.product; made = sym c.take.ensures.value ∙ c.in-Some-take.is } in
     record {
       holds = holds;
       owner = c.in-Ok.ensures.owner;
@@ -20,13 +19,13 @@ returns-in-Ok-clause-acts g c =
 pub returns-in_default-stop : goal.returns-in_default-stop
 returns-in_default-stop g c =
     let held = c.in-Some.held in
-    let made : held.run ≡ Some c.in-Some-take.run' = sym c.take.ensures.value ∙ c.in-Some-take.is in
-    let holds : HoldsRun c.args.hand.now = record { held = held; is = c.in-Some.is; run = c.in-Some-take.run'; made = made } in
+    let made : held.product ≡ Some c.in-Some-take.product = sym c.take.ensures.value ∙ c.in-Some-take.is in
+    let holds : HoldsProduct c.args.hand.now = record { held = held; is = c.in-Some.is; product = c.in-Some-take.product; made = made } in
     let old = c.args.queue.now in
-    let new = c.flush_run.new.self in
-    let began = RunBegan old.rows held.lock.job c.in-Some-take.run' in
-    let back : Some c.in-Err.refused.back ≡ held.run = ap (λ (r : AdvanceOf). Some r) c.in-Err.ensures.back ∙ sym made in
-    let hand = ap (λ (run : Option AdvanceOf). Some (record held { run = run })) back ∙ sym c.in-Some.is in
+    let new = c.flush_product.new.queue in
+    let began = ProductBegan old.rows held.lock.job c.in-Some-take.product in
+    let back : Some c.in-Err.refused.back ≡ held.product = ap (λ (r : Product). Some r) c.in-Err.ensures.back ∙ sym made in
+    let hand = ap (λ (product : Option Product). Some (record held { product = product })) back ∙ sym c.in-Some.is in
     record {
       acts = record {
         holds = holds;
