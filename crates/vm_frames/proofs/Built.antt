@@ -9,7 +9,8 @@ use Rattle.vm_course.specs.Course.{literals_of_code}
 use Rattle.vm_course.specs.Fits.{OpFits}
 use Rattle.vm_course.specs.Laws.{CodesFit, CodesCount}
 use Rattle.vm_course.specs.State.{Slot, code_slots}
-use Rattle.vm_frames.specs.Reading.{Reading, IsTable, AllKnown, text_in, distinct, numbers_of, reading_of}
+use Rattle.vm_frames.specs.declared.extents.Extent.{Extent}
+use Rattle.vm_frames.specs.Reading.{Reading, IsTable, AllKnown, text_in, distinct, extents_of, reading_of}
 use Rattle.vm_frames.proofs.Texts.{all_known, code_texts, distinct_length}
 
 abbrev pub reading : List Slot → List (List ℕ) → Reading
@@ -26,11 +27,11 @@ module _ (code : Ops) (slots : List Slot) (literals : List (List ℕ)) (counted 
   pub known : AllKnown literals slots
   known = subst (λ ls. AllKnown ls slots) (sym lists) (all_known slots)
 
-  pub keeps : (numbers : List ℕ) → CodesFit → IsCode code → numbers ≡ numbers_of literals slots → IsTable record { slots = slots; literals = literals } numbers
-  keeps numbers fit valid numbered = record {
+  pub keeps : (extents : List Extent) → CodesFit → IsCode code → extents ≡ extents_of literals slots → IsTable record { slots = slots; literals = literals } extents
+  keeps extents fit valid noted = record {
     few = few_slots;
     fits = λ place op begins. subst (λ s. OpFits s (place + size op) op) (sym are) (fit code place op valid (sym (ap (λ s. slice_get s place) are) ∙ begins));
-    numbered = numbered;
+    noted = noted;
     known = known;
   }
 

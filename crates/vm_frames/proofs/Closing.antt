@@ -1,12 +1,12 @@
 -- Upvalues that are closed, and the numbers of open ones by their places.
-use Rattle.std.proofs.Common.{◌≡◌, ◌<◌, ◌≤◌, ℕ, zero, suc, List, [], ◌∷◌, true, false, cond, map, set, Option, Some, None, arith, refl, ap, ap₂, sym, ◌∙◌}
+use Rattle.std.proofs.Common.{◌≡◌, ◌<◌, ◌≤◌, ℕ, zero, suc, List, [], ◌∷◌, true, false, cond, length, map, set, Option, Some, None, arith, refl, ap, ap₂, sym, ◌∙◌}
 use Rattle.std.proofs.lemmas.List.{map-set}
 use Rattle.std.proofs.lemmas.Option.{none-some, slice_get-map}
 use Rattle.std.proofs.lemmas.Bool.Decides.{nat_tests}
 use Rattle.std.specs.Prelude.{slice_get, option_map, nat_lt}
 use Rattle.std.specs.Ordering.{nat_cmp}
 use Rattle.std.specs.Map.{lookup}
-use Rattle.std.specs.BTreeMap.{BTreeMap, get, is_at}
+use Rattle.std.specs.BTreeMap.{BTreeMap, get, is_at, btree_map_len}
 use Rattle.hog_value.specs.Values.{Val}
 use Rattle.vm_frames.specs.declared.upvalues.Upvalue as u
 use Rattle.vm_frames.specs.declared.upvalues.Upvalue.TheVariants as up
@@ -70,6 +70,16 @@ pub none_left : (height : ℕ) (stack : List Val) (us : List u.Upvalue) (before 
     → ((p n : ℕ) → get nat_cmp after p ≡ Some n → p < height) → map upvalue_of us ≡ map (close height stack) (map upvalue_of us)
 none_left height stack us before after indexed same low =
     sym (close_none height stack (map upvalue_of us) (λ n p is. low p n (ap (lookup (is_at (nat_cmp p))) same ∙ indexed.listed n p (listed_open us n p is))))
+
+-- without numbers of open ones nothing is open, and closing changes nothing
+pub none_open : (height : ℕ) (stack : List Val) (us : List u.Upvalue) (numbers : BTreeMap ℕ ℕ) → IsIndexed us numbers → btree_map_len numbers ≡ 0
+    → map upvalue_of us ≡ map (close height stack) (map upvalue_of us)
+none_open height stack us numbers indexed empty =
+    none_left height stack us numbers numbers indexed refl (λ p n is. absurd (none-some n (sym (ap (lookup (is_at (nat_cmp p))) (no_entries numbers.entries empty)) ∙ is)))
+  where
+    no_entries : (es : List (ℕ × ℕ)) → length es ≡ 0 → es ≡ []
+    no_entries [] e = refl
+    no_entries (x ∷ xs) e = absurd cc
 
 -- a closed upvalue as contracts see it
 seen_closed : (x : u.Upvalue) (v : Val) → upvalue_of x ≡ Closed v → x ≡ up.Closed v

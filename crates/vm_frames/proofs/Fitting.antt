@@ -17,7 +17,8 @@ use denote.Ref.{Bor}
 use Rattle.vm_frames.specs.declared.slots.Slot as p
 use Rattle.vm_frames.specs.declared.slots.Slot.TheVariants as v
 use Rattle.vm_frames.specs.Places.{slot_of}
-use Rattle.vm_frames.specs.Reading.{Reading, IsTable, LeadsNear, text_in, number_of}
+use Rattle.vm_frames.specs.declared.extents.Extent.{Extent}
+use Rattle.vm_frames.specs.Reading.{Reading, IsTable, LeadsNear, text_in, number_of, extent_of}
 
 -- a place is not behind the end
 place_within : (code : List Slot) (place : ℕ) → is_place code place ≡ true → place ≤ length code
@@ -36,15 +37,15 @@ leads_near code behind (Spells t) few h = tt
 leads_near code behind (Gives z) few h = tt
 leads_near code behind (Holds name params body captures) few h = tt
 
-pub opened : (r s : Reading) (numbers : List ℕ) → r ≡ s → IsTable r numbers → IsTable s numbers
-opened r s numbers e keeps = subst (λ x. IsTable x numbers) e keeps
+pub opened : (r s : Reading) (extents : List Extent) → r ≡ s → IsTable r extents → IsTable s extents
+opened r s extents e keeps = subst (λ x. IsTable x extents) e keeps
 
 -- what was read at a place
 pub read : (slots : List Slot) (place : ℕ) (found : Option p.Slot) (x : p.Slot) (op : Bor q.Op) → option_map slot_of found ≡ slice_get slots place → found ≡ Some x → x ≡ v.Begins op
     → slice_get slots place ≡ Some (Begins (op_of op.now))
 read slots place found x op e is begins = sym e ∙ ap (option_map slot_of) is ∙ ap (λ y. Some (slot_of y)) begins
 
-module _ (r : Reading) (numbers : List ℕ) (keeps : IsTable r numbers) (place : ℕ) (op : Op) (begins : slice_get r.slots place ≡ Some (Begins op)) where
+module _ (r : Reading) (extents : List Extent) (keeps : IsTable r extents) (place : ℕ) (op : Op) (begins : slice_get r.slots place ≡ Some (Begins op)) where
   pub op_fits : OpFits r.slots (place + size op) op
   op_fits = keeps.fits place op begins
 
@@ -54,20 +55,23 @@ module _ (r : Reading) (numbers : List ℕ) (keeps : IsTable r numbers) (place :
   pub op_leads_near : LeadsNear (place + size op) (row op)
   op_leads_near = leads_near r.slots (place + size op) (row op) keeps.few (op_fits).leads
 
-  pub has_number : place < length numbers
-  has_number = omega (arith, ap length keeps.numbered, length-map r.slots (λ s. number_of r.literals (text_in s)), slice_get_within r.slots place (Begins op) begins)
+  pub has_extent : place < length extents
+  has_extent = omega (arith, ap length keeps.noted, length-map r.slots (extent_of r.literals), slice_get_within r.slots place (Begins op) begins)
 
-  pub number_is : (n : ℕ) → n ≡ get_or numbers place n → n ≡ number_of r.literals (text_in (Begins op))
-  number_is n is =
-      let at : Some (get_or numbers place n) ≡ Some (number_of r.literals (text_in (Begins op))) =
-      sym (slice_get-get_or numbers place n has_number) ∙ ap (λ ns. slice_get ns place) keeps.numbered
-      ∙ slice_get-map (λ s. number_of r.literals (text_in s)) r.slots place ∙ ap (option_map (λ s. number_of r.literals (text_in s))) begins in
-      let same : get_or numbers place n ≡ number_of r.literals (text_in (Begins op)) = cc in
+  extent_is : (x : Extent) → x ≡ get_or extents place x → x ≡ extent_of r.literals (Begins op)
+  extent_is x is =
+      let at : Some (get_or extents place x) ≡ Some (extent_of r.literals (Begins op)) =
+      sym (slice_get-get_or extents place x has_extent) ∙ ap (λ es. slice_get es place) keeps.noted
+      ∙ slice_get-map (extent_of r.literals) r.slots place ∙ ap (option_map (extent_of r.literals)) begins in
+      let same : get_or extents place x ≡ extent_of r.literals (Begins op) = cc in
       is ∙ same
 
-  pub literal_is : (n : ℕ) → n ≡ get_or numbers place n → (t : List ℕ) → op ≡ Str t → n ≡ place_in r.literals t
-  literal_is n is t e = number_is n is ∙ ap (λ o. number_of r.literals (text_in (Begins o))) e
+  pub size_is : (x : Extent) → x ≡ get_or extents place x → x.size ≡ size op
+  size_is x is = ap (λ y. y.size) (extent_is x is)
 
-  pub literal_known : (n : ℕ) → n ≡ get_or numbers place n → (t : List ℕ) → op ≡ Str t → n < length r.literals
-  literal_known n is t e =
-      omega (arith, literal_is n is t e, keeps.known place t (ap (option_and_then text_in) begins ∙ ap (λ o. text_in (Begins o)) e))
+  pub literal_is : (x : Extent) → x ≡ get_or extents place x → (t : List ℕ) → op ≡ Str t → x.literal ≡ place_in r.literals t
+  literal_is x is t e = ap (λ y. y.literal) (extent_is x is) ∙ ap (λ o. number_of r.literals (text_in (Begins o))) e
+
+  pub literal_known : (x : Extent) → x ≡ get_or extents place x → (t : List ℕ) → op ≡ Str t → x.literal < length r.literals
+  literal_known x is t e =
+      omega (arith, literal_is x is t e, keeps.known place t (ap (option_and_then text_in) begins ∙ ap (λ o. text_in (Begins o)) e))

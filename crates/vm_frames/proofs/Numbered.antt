@@ -15,7 +15,8 @@ use denote.Ref.{Bor}
 use Rattle.hog_meaning.specs.Meaning.{place_in}
 use Rattle.vm_frames.specs.declared.slots.Slot as r
 use Rattle.vm_frames.specs.Places.{slot_of, slots_of, shown, AreInOrder}
-use Rattle.vm_frames.specs.Reading.{text_in, number_of, numbers_of}
+use Rattle.vm_frames.specs.declared.extents.Extent.{Extent}
+use Rattle.vm_frames.specs.Reading.{extent_of, extents_of}
 
 -- ---- what a binary search finds
 
@@ -70,7 +71,7 @@ found_some ls t i up lt result =
     let high : i ≤ place_in (shown ls) t → ⊥ = λ h. no_greater (sym (point.1 (place_in (shown ls) t) d h lt) ∙ same) in
     absurd (omega (arith, low, high))
 
--- ---- one more number
+-- ---- one more place
 
 module _ (xs : List r.Slot) (i : ℕ) (x : r.Slot) (lt : i < length xs) (is : x ≡ get_or xs i x) where
   taken : slots_of (take (i + 1) xs) ≡ slots_of (take i xs) ++ slot_of x ∷ []
@@ -84,8 +85,8 @@ module _ (xs : List r.Slot) (i : ℕ) (x : r.Slot) (lt : i < length xs) (is : x 
       there (y ∷ xs) zero x lt is = ap (λ z. Some (slot_of z)) (sym is)
       there (y ∷ xs) (suc i) x lt is = there xs i x (omega arith) is
 
-  pub numbers_more : (ls : List (List ℕ)) (ns : List ℕ) → ns ≡ numbers_of ls (slots_of (take i xs)) → ns ++ number_of ls (text_in (slot_of x)) ∷ [] ≡ numbers_of ls (slots_of (take (i + 1) xs))
-  numbers_more ls ns e =
-      ap (λ ms. ms ++ number_of ls (text_in (slot_of x)) ∷ []) e
-      ∙ sym (map-append (λ s. number_of ls (text_in s)) (slots_of (take i xs)) (slot_of x ∷ []))
-      ∙ ap (numbers_of ls) (sym taken)
+  pub extents_more : (ls : List (List ℕ)) (es : List Extent) → es ≡ extents_of ls (slots_of (take i xs)) → es ++ extent_of ls (slot_of x) ∷ [] ≡ extents_of ls (slots_of (take (i + 1) xs))
+  extents_more ls es e =
+      ap (λ fs. fs ++ extent_of ls (slot_of x) ∷ []) e
+      ∙ sym (map-append (extent_of ls) (slots_of (take i xs)) (slot_of x ∷ []))
+      ∙ ap (extents_of ls) (sym taken)

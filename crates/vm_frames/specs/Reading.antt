@@ -12,6 +12,7 @@ use Rattle.vm_course.specs.State.{Slot, Begins, BodyEnds, Operand, code_slots}
 use Rattle.vm_course.specs.Step.{place_at}
 use Rattle.vm_course.specs.Course.{literals_of_code}
 use Rattle.vm_course.specs.Fits.{OpFits}
+use Rattle.vm_frames.specs.declared.extents.Extent.{Extent}
 
 -- what stands at each place, and the texts of its STRING operations
 pub record Reading : Type 0 where
@@ -59,18 +60,29 @@ abbrev pub number_of : List (List ℕ) → Option (List ℕ) → ℕ
 number_of literals None = 0
 number_of literals (Some t) = place_in literals t
 
-abbrev pub numbers_of : List (List ℕ) → List Slot → List ℕ
-numbers_of literals slots = map (λ s. number_of literals (text_in s)) slots
+-- how many elements the operation has that begins there, 0 where none begins
+abbrev pub size_in : Slot → ℕ
+size_in (Begins o) = size o
+size_in BodyEnds = 0
+size_in Operand = 0
+
+-- how many elements what stands there has, and the number of its literal
+abbrev pub extent_of : List (List ℕ) → Slot → Extent
+extent_of literals slot = record { size = size_in slot; literal = number_of literals (text_in slot) }
+
+abbrev pub extents_of : List (List ℕ) → List Slot → List Extent
+extents_of literals slots = map (extent_of literals) slots
 
 -- each text is one of the literals
 abbrev pub AllKnown : List (List ℕ) → List Slot → Type 0
 AllKnown literals slots = (place : ℕ) (t : List ℕ) → option_and_then text_in (slice_get slots place) ≡ Some t → place_in literals t < length literals
 
--- What a table keeps: there are fewer than 2^32 places, each operation fits, and each text has its number among the literals.
-pub record IsTable (r : Reading) (numbers : List ℕ) : Type 0 where
+-- What a table keeps: there are fewer than 2^32 places, each operation fits, its size is noted, and each text has its number among
+-- the literals.
+pub record IsTable (r : Reading) (extents : List Extent) : Type 0 where
   pub few : length r.slots < 2 ^ 32
   pub fits : (place : ℕ) (op : Op) → slice_get r.slots place ≡ Some (Begins op) → OpFits r.slots (place + size op) op
-  pub numbered : numbers ≡ numbers_of r.literals r.slots
+  pub noted : extents ≡ extents_of r.literals r.slots
   pub known : AllKnown r.literals r.slots
 
 -- ---- a reading is stored as the operations that begin, and the literals

@@ -5,6 +5,7 @@
 //! No call but those that answer `AllocError` takes memory.
 #![tactic(auto)]
 
+mod extents;
 pub mod frames;
 mod literals;
 mod slots;

@@ -1,11 +1,11 @@
-//! The texts of a code's STRING operations.
+//! The texts of a code's STRING operations, and their numbers.
 
-ghost use Rattle.std.specs.Prelude.{◌≡◌, ◌<◌, ◌^◌, ℕ, List, length, IfOk, Some};
+ghost use Rattle.std.specs.Prelude.{◌≡◌, ◌<◌, ◌^◌, length, IfOk};
 ghost use Rattle.std.specs.List.{filter_map};
 ghost use Rattle.std.specs.Option.{option_copied};
 ghost use Rattle.hog_meaning.specs.Meaning.{place_in};
 ghost use Rattle.vm_frames.specs.Places.{slot_of, slots_of, shown, AreInOrder};
-ghost use Rattle.vm_frames.specs.Reading.{text_in, distinct, number_of, numbers_of, AllKnown};
+ghost use Rattle.vm_frames.specs.Reading.{text_in, distinct};
 
 use crate::slots::Slot;
 use hog_ops::Op;
@@ -15,7 +15,7 @@ use std::collections::BTreeSet;
 use std::convert::AsStr;
 
 /// The text of a STRING operation that begins there.
-fn text_in<'c>(slot: Slot<'c>) -> Option<&'c HogText>
+pub(crate) fn text_in<'c>(slot: Slot<'c>) -> Option<&'c HogText>
     ensures { option_copied result ≡ text_in (slot_of slot.entry) }
 {
     match slot {
@@ -51,7 +51,7 @@ pub(crate) fn literals<'c>(alloc: Global, slots: &[Slot<'c>]) -> Result<Vec<&'c 
 }
 
 /// The number of a text that is there. Takes no memory.
-fn number_of(literals: &[&str], text: &str) -> u32
+pub(crate) fn number_of(literals: &[&str], text: &str) -> u32
     requires few { length literals.now < 2 ^ 32 }
     requires in_order { AreInOrder literals.now }
     requires known { place_in (shown literals.now) text.now < length literals.now }
@@ -61,35 +61,4 @@ fn number_of(literals: &[&str], text: &str) -> u32
         Ok(number) => number as u32,
         Err(_) => unreachable!(),
     }
-}
-
-/// The number of the literal of what stands at a place, 0 where it has none. Takes no memory.
-fn number_at(literals: &[&str], slot: Slot) -> u32
-    requires few { length literals.now < 2 ^ 32 }
-    requires in_order { AreInOrder literals.now }
-    requires known { (t : List ℕ) → text_in (slot_of slot) ≡ Some t → place_in (shown literals.now) t < length literals.now }
-    ensures { result ≡ number_of (shown literals.now) (text_in (slot_of slot.entry)) }
-{
-    match text_in(slot) {
-        Some(text) => number_of(literals, text.as_str()),
-        None => 0,
-    }
-}
-
-/// The number of the literal of what stands at each place.
-pub(crate) fn numbers(
-    alloc: Global,
-    slots: &[Slot],
-    literals: &[&str],
-) -> Result<Vec<u32>, AllocError>
-    requires few { length literals.now < 2 ^ 32 }
-    requires in_order { AreInOrder literals.now }
-    requires known { AllKnown (shown literals.now) (slots_of slots.now) }
-    ensures { IfOk result (λ ns. ns.items ≡ numbers_of (shown literals.now) (slots_of slots.now)) }
-{
-    let mut numbers = Vec::with_capacity(alloc, slots.len())?;
-    for slot in slots {
-        numbers.push(number_at(literals, *slot))?;
-    }
-    Ok(numbers)
 }

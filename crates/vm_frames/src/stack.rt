@@ -74,6 +74,7 @@ impl Stack {
 
     /// The topmost operand of the lowest `len` values, and how many values stand under it. Below `floor` there is none: it
     /// is null then. Takes no memory.
+    #[inline(always)]
     pub fn top(&self, floor: u32, len: u32) -> (Value, u32)
         requires { len ≤ length self.now }
         ensures is { top_of floor (keep len self.now) ≡ (result.0, keep result.1 self.now) }
@@ -87,6 +88,7 @@ impl Stack {
     }
 
     /// Keeps the lowest `len` values. Takes no memory.
+    #[inline(always)]
     pub fn keep(&mut self, len: u32)
         ensures { self.new ≡ keep len self.old }
     {
@@ -94,6 +96,7 @@ impl Stack {
     }
 
     /// Adds a value on top.
+    #[inline(always)]
     pub fn push(&mut self, v: Value) -> Result<(), AllocError>
         ensures ok { OnOk result (self.new ≡ v ∷ self.old) }
         ensures err { OnErr result (self.new ≡ self.old) }

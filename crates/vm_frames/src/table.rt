@@ -11,7 +11,8 @@ ghost use Rattle.vm_course.specs.State.{Begins, params_at};
 ghost use Rattle.vm_frames.specs.Places.{slot_of};
 ghost use Rattle.vm_frames.specs.Reading.{reading_of, BeginsNone, LeadsNear};
 
-use crate::literals::{literals, numbers};
+use crate::extents::{Extent, extents};
+use crate::literals::literals;
 use crate::slots::{Slot, slots};
 use hog_ops::{Code, Op};
 use hog_value::HogText;
@@ -27,14 +28,14 @@ pub struct Begin<'c> {
     pub literal: u32,
 }
 
-/// What stands at each place of a code, of which there are fewer than 2^32, and the distinct texts of its STRING operations in
-/// byte order. It is built once, in time linear in the code but for the look-up of each text, and then answers in constant
+/// What stands at each place of a code, of which there are fewer than 2^32, what is noted of it, and the distinct texts of its
+/// STRING operations in byte order. It is built once, in time linear in the code but for the look-up of each text, and then answers in constant
 /// time.
 #[derive(Drop)]
 pub struct Table<'c> {
     slots: Vec<Slot<'c>>,
     literals: Vec<&'c str>,
-    numbers: Vec<u32>,
+    extents: Vec<Extent>,
 }
 
 impl<'c> Model for Table<'c> {
@@ -49,7 +50,7 @@ impl<'c> Model for Table<'c> {
 
     ghost view = { λ t. record { slots = slots_of t.slots.items; literals = shown t.literals.items } };
 
-    ghost invariant = { λ t. IsTable (record { slots = slots_of t.slots.items; literals = shown t.literals.items }) t.numbers.items };
+    ghost invariant = { λ t. IsTable (record { slots = slots_of t.slots.items; literals = shown t.literals.items }) t.extents.items };
 }
 
 impl<'c> Table<'c> {
@@ -66,11 +67,11 @@ impl<'c> Table<'c> {
         let _ops = code.ops();
         let slots = slots(alloc, code)?;
         let literals = literals(alloc, &slots)?;
-        let numbers = numbers(alloc, &slots, &literals)?;
+        let extents = extents(alloc, &slots, &literals)?;
         Ok(Table {
             slots,
             literals,
-            numbers,
+            extents,
         })
     }
 
@@ -92,11 +93,14 @@ impl<'c> Table<'c> {
         ensures known { IfSome result (λ b. (t : List ℕ) → op_of b.op.now ≡ Str t → b.literal < length self.now.literals) }
     {
         match self.slot(place) {
-            Some(Slot::Begins(op)) => Some(Begin {
-                op,
-                behind: place + op.len() as u32,
-                literal: self.numbers[place as usize],
-            }),
+            Some(Slot::Begins(op)) => {
+                let extent = self.extents[place as usize];
+                Some(Begin {
+                    op,
+                    behind: place + extent.size as u32,
+                    literal: extent.literal,
+                })
+            }
             _ => None,
         }
     }

@@ -130,7 +130,19 @@ impl Upvalues {
     }
 
     /// Closes the upvalues that are open at a height or above it: each takes the value at its place along. Takes no memory.
+    #[inline(always)]
     pub fn close(&mut self, height: u32, stack: &Stack)
+        ensures { self.new ≡ map (close height stack.now) self.old }
+    {
+        // Most stacks are cut where no variable is captured.
+        if !self.by_place.is_empty() {
+            self.close_from(height, stack);
+        }
+    }
+
+    /// Closes them where some are open. Takes no memory.
+    #[inline(never)]
+    fn close_from(&mut self, height: u32, stack: &Stack)
         ensures { self.new ≡ map (close height stack.now) self.old }
     {
         while let Some((place, number)) = take_last(&mut self.by_place, height) {

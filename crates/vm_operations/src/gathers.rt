@@ -43,6 +43,7 @@ pub(crate) fn set_stop(why: Stop) -> SetStop
 
 impl State {
     /// AND
+    #[inline(never)]
     pub(crate) fn and(&mut self, alloc: Global, behind: u32, n: u32) -> Result<(), AllocError>
         ensures { OnOk result (Does (o.And n) behind self.old self.new) }
     {
@@ -52,6 +53,7 @@ impl State {
     }
 
     /// OR
+    #[inline(never)]
     pub(crate) fn or(&mut self, alloc: Global, behind: u32, n: u32) -> Result<(), AllocError>
         ensures { OnOk result (Does (o.Or n) behind self.old self.new) }
     {

@@ -69,6 +69,7 @@ impl State {
     }
 
     /// GET_GLOBAL, where the cell of the globals has a number.
+    #[inline(never)]
     pub(crate) fn get_global(
         &mut self,
         alloc: Global,

@@ -80,6 +80,7 @@ impl State {
     }
 
     /// TRY
+    #[inline(never)]
     pub(crate) fn open_try(&mut self, behind: u32, distance: i64) -> Result<(), AllocError>
         requires { place_at behind distance < 2 ^ 32 }
         ensures { OnOk result (Does (o.Try distance) behind self.old self.new) }
@@ -96,6 +97,7 @@ impl State {
     }
 
     /// POP_TRY. Takes no memory.
+    #[inline(never)]
     pub(crate) fn pop_try(&mut self, behind: u32)
         ensures { Does o.PopTry behind self.old self.new }
     {

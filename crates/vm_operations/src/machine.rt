@@ -185,6 +185,7 @@ impl Machine {
     }
 
     /// One operation more. After want of memory the machine is spent.
+    #[inline(always)]
     pub fn step(&mut self, alloc: Global, table: &Table) -> Result<(), AllocError>
         requires runs { self.old.run.state.mode ≡ Running }
         requires fresh { self.old.spent ≡ false }

@@ -102,6 +102,7 @@ impl State {
     }
 
     /// The topmost operand of the lowest `len` values, and how many values stand under it. Takes no memory.
+    #[inline(always)]
     pub(crate) fn top(&self, floor: u32, len: u32) -> (Value, u32)
         requires { len ≤ length self.now.stack }
         ensures is { top_of floor (keep len self.now.stack) ≡ (result.0, keep result.1 self.now.stack) }
@@ -135,6 +136,7 @@ impl State {
     }
 
     /// Cuts the stack to its lowest `len` values, and closes the upvalues of the others. Takes no memory.
+    #[inline(always)]
     pub(crate) fn cut(&mut self, len: u32)
         requires { len ≤ length self.old.stack }
         ensures { self.new ≡ cut_to (keep len self.old.stack) self.old }
@@ -156,6 +158,7 @@ impl State {
     }
 
     /// Puts a value on the stack.
+    #[inline(always)]
     pub(crate) fn push(&mut self, v: Value) -> Result<(), AllocError>
         requires { NamesBelow (length self.old.heap) v }
         ensures { OnOk result (self.new ≡ push v self.old) }
@@ -164,6 +167,7 @@ impl State {
     }
 
     /// On to the next operation, with the lowest `rest` values of the stack left. Takes no memory.
+    #[inline(always)]
     pub(crate) fn go_on(&mut self, behind: u32, rest: u32)
         requires { rest ≤ length self.old.stack }
         ensures { self.new ≡ on_with (here_of behind self.old) (keep rest self.old.stack) self.old }
@@ -173,6 +177,7 @@ impl State {
     }
 
     /// On to the next operation, with the lowest `rest` values of the stack left and this value on them.
+    #[inline(always)]
     pub(crate) fn go_on_with(&mut self, behind: u32, rest: u32, v: Value) -> Result<(), AllocError>
         requires rest { rest ≤ length self.old.stack }
         requires names { NamesBelow (length self.old.heap) v }

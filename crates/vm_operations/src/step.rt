@@ -43,6 +43,7 @@ fn operator_of(op: &Op) -> Option<BinaryOp>
 impl State {
     /// One operation more of a code, where the cell of the globals has a number. The end of a body, and that of the code,
     /// give back null.
+    #[inline(always)]
     pub(crate) fn step(
         &mut self,
         alloc: Global,
@@ -62,7 +63,9 @@ impl State {
         }
     }
 
-    /// The operation that begins where the machine stands.
+    /// The operation that begins where the machine stands. The compilers are told to put the operations of most loops into the
+    /// loop of a slice, and to leave the others calls.
+    #[inline(always)]
     fn perform(
         &mut self,
         alloc: Global,
@@ -158,6 +161,7 @@ impl State {
     }
 
     /// An operation on arrays, dictionaries and their properties.
+    #[inline(never)]
     fn use_cell(&mut self, alloc: Global, behind: u32, op: &Op) -> Result<(), AllocError>
         requires { is_cell (op_of op.now) ≡ true }
         ensures { OnOk result (Does (op_of op.now) behind self.old self.new) }
@@ -173,6 +177,7 @@ impl State {
     }
 
     /// An operation that makes, calls or leaves a function, calls a native, or throws.
+    #[inline(never)]
     fn call(&mut self, alloc: Global, behind: u32, op: &Op, table: &Table) -> Result<(), AllocError>
         requires call { is_call (op_of op.now) ≡ true }
         requires next { IsNext table.now (op_of op.now) behind self.old }

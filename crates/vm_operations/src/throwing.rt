@@ -121,6 +121,7 @@ impl State {
 
     /// A kind is thrown, as the dictionary that is made of it.
     #[tactic(auto, unfolding(vm_course::specs::Throws::throw_kind))]
+    #[cold]
     pub(crate) fn throw_kind(&mut self, alloc: Global, kind: Kind) -> Result<(), AllocError>
         ensures { OnOk result (self.new ≡ throw_kind kind self.old) }
     {

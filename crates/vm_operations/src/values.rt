@@ -18,6 +18,7 @@ use std::alloc::{AllocError, Global};
 
 impl State {
     /// Puts a value on the stack, and goes on.
+    #[inline(always)]
     pub(crate) fn push_value(&mut self, behind: u32, v: Value) -> Result<(), AllocError>
         requires { NamesBelow (length self.old.heap) v }
         ensures { OnOk result (self.new ≡ on_and_push (here_of behind self.old) self.old.stack v self.old) }
@@ -40,6 +41,7 @@ impl State {
     }
 
     /// Goes on with a result on what is left of the stack, or throws its kind.
+    #[inline(always)]
     pub(crate) fn settle(
         &mut self,
         alloc: Global,

@@ -2,7 +2,7 @@ use Rattle.std.proofs.Common.{◌≡◌, map}
 use Rattle.std.specs.BTreeMap.{btree_map_len}
 use Rattle.vm_course.specs.Stack.{close}
 use Rattle.vm_frames.specs.Views.{upvalue_of, IsIndexed}
-use Rattle.vm_frames.proofs.upvalues.Upvalues.close.Given as goal
+use Rattle.vm_frames.proofs.upvalues.Upvalues.close_from.Given as goal
 
 abbrev pub invariant-loop-place : goal.invariant-loop-place
 invariant-loop-place l = record {

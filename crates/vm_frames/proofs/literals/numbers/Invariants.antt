@@ -1,7 +1,0 @@
-use Rattle.std.proofs.Common.{◌≡◌, take}
-use Rattle.vm_frames.specs.Places.{slots_of, shown}
-use Rattle.vm_frames.specs.Reading.{numbers_of}
-use Rattle.vm_frames.proofs.literals.numbers.Given as goal
-
-abbrev pub invariant-loop-slot : goal.invariant-loop-slot
-invariant-loop-slot l = l.numbers.items ≡ numbers_of (shown l.literals) (slots_of (take l.slot-index l.slots))
