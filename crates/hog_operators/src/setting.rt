@@ -2,13 +2,12 @@
 
 ghost use Rattle.std.specs.Prelude.{◌≡◌, ◌<◌, length};
 ghost use Rattle.hog_value.specs.Values.{NamesBelow};
-ghost use Rattle.hog_value.specs.Cells.{IsCovered};
+ghost use Rattle.hog_value.specs.Cells.{IsCovered, text_at};
 ghost use Rattle.hog_value.specs.Operations.{set_item_of, set_key_of};
-ghost use Rattle.hog_meaning.specs.Operators.{assigned};
+ghost use Rattle.hog_meaning.specs.Operators.{assigned, set_by};
 ghost use Rattle.hog_operators.specs.Settles.{Sets};
 
-use crate::inside::text_named;
-use hog_value::{Cell, Heap, HogText, Kind, Meter, SetStop, Stop, Value};
+use hog_value::{Cell, Heap, Kind, Meter, SetStop, Stop, Value};
 
 /// Sets the item of a cell at an index from 1; a cell that is no array has none.
 #[tactic(auto, unfolding(hog_value::specs::Operations::set_item_of))]
@@ -24,23 +23,19 @@ fn set_item(heap: &mut Heap, cell: u32, index: i64, v: Value, m: &mut Meter) -> 
     heap.set_item(cell, index, v, m)
 }
 
-/// Sets a key of a cell; a cell that is no dictionary has none.
+/// Sets a key of a cell, which a text of the heap is; a cell that is no dictionary has none.
 #[tactic(auto, unfolding(hog_value::specs::Operations::set_key_of))]
-fn set_key(
-    heap: &mut Heap,
-    cell: u32,
-    key: &HogText,
-    v: Value,
-    m: &mut Meter,
-) -> Result<(), SetStop>
+fn set_key(heap: &mut Heap, cell: u32, key: u32, v: Value, m: &mut Meter) -> Result<(), SetStop>
     requires cell { cell < length heap.old }
+    requires key { key < length heap.old }
     requires names { NamesBelow (length heap.old) v }
     requires covered { IsCovered heap.old m.old.units }
-    ensures { Sets (set_key_of heap.old cell key.now v m.old.units) result heap.old heap.new m.old m.new }
+    ensures { Sets (set_by (text_at heap.old key) (λ text. set_key_of heap.old cell text v m.old.units))
+        result heap.old heap.new m.old m.new }
 {
-    if !matches!(heap.get(cell), Cell::Dict(_)) {
+    let (Cell::Dict(_), Cell::Text(_)) = (heap.get(cell), heap.get(key)) else {
         return Err(SetStop::Thrown(Kind::TypeError));
-    }
+    };
     match heap.set_key(cell, key, v, m) {
         Ok(()) => Ok(()),
         Err(Stop::UnitsSpent) => Err(SetStop::UnitsSpent),
@@ -66,14 +61,7 @@ pub fn assign(
 {
     match (base, key) {
         (Value::Ref(n), Value::Int(index)) => set_item(heap, n, index, v, m),
-        (Value::Ref(n), Value::Ref(_)) => {
-            let Some(text) = text_named(heap, key) else {
-                return Err(SetStop::Thrown(Kind::TypeError));
-            };
-            // The heap changes while the key is at hand.
-            let text = text.copy()?;
-            set_key(heap, n, &text, v, m)
-        }
+        (Value::Ref(n), Value::Ref(text)) => set_key(heap, n, text, v, m),
         _ => Err(SetStop::Thrown(Kind::TypeError)),
     }
 }

@@ -61,6 +61,24 @@ pub dict_read : (cs : List Cell) (h : HeapOf FunCell) (n : ℕ) (x : Cell) (ps :
 dict_read cs h n x ps seen found at is =
     cell_read cs h n x seen (within_cells pairs_of h n found) at ∙ ap (λ y. Some (cell_of y)) is
 
+-- a cell that was read once more
+module _ (cs : List Cell) (h : HeapOf FunCell) (n : ℕ) (x : Cell) (ps : List (List ℕ × Val))
+    (seen : map cell_of cs ≡ h) (at : x ≡ get_or cs n x) (dict : slice_get h n ≡ Some (Dict ps)) where
+  pub read_again : cell_of x ≡ Dict ps
+  read_again = let now = cell_read cs h n x seen (slice_get_within h n (Dict ps) dict) at in cc
+
+  pub pairs_again : (qs : List (List ℕ × Val)) → x ≡ c.Dict qs → qs ≡ ps
+  pairs_again qs is = let now : Dict qs ≡ Dict ps = ap cell_of (sym is) ∙ read_again in cc
+
+  pub is_dict : ((qs : List (List ℕ × Val)) → x ≡ c.Dict qs → ⊥) → ⊥
+  is_dict = by x read_again
+    where
+      by : (y : Cell) → cell_of y ≡ Dict ps → ((qs : List (List ℕ × Val)) → y ≡ c.Dict qs → ⊥) → ⊥
+      by (c.Dict qs) now other = other qs refl
+      by (c.Text t) now other = absurd cc
+      by (c.Array vs) now other = absurd cc
+      by (c.Fun f) now other = absurd cc
+
 module _ (cs : List Cell) (h : HeapOf FunCell) (n : ℕ) (x : Cell) (seen : map cell_of cs ≡ h) where
   -- the heap after a cell of the program's list was set
   pub cells_set : map cell_of (set cs n x) ≡ set h n (cell_of x)

@@ -5,7 +5,6 @@ ghost use Rattle.hog_value.specs.Operations.{place_of};
 
 use crate::cell::Cell;
 use crate::meter::Meter;
-use crate::text::HogText;
 use crate::value::{Kind, SetStop, Stop, Value};
 use std::alloc::Global;
 use std::marker::Model;
@@ -32,10 +31,10 @@ impl Model for Heap {
 }
 
 impl Heap {
-    ghost use Rattle.std.specs.Prelude.{◌≡◌, ◌<◌, ◌↔◌, ◌+◌, ◌++◌, ◌∷◌, [], length, IfOk, OnOk, OnErr, IsSome, Some, Ok, slice_get, map, take};
+    ghost use Rattle.std.specs.Prelude.{◌≡◌, ◌<◌, ◌↔◌, ◌+◌, ◌++◌, ◌∷◌, [], length, IfOk, IfSome, OnOk, OnErr, IsSome, Some, Ok, slice_get, map, take};
     ghost use Rattle.hog_value.specs.declared.value.Kind.{Kind as AKind};
     ghost use Rattle.hog_value.specs.Values.{NamesBelow};
-    ghost use Rattle.hog_value.specs.Cells.{IsClosed, IsSound, IsCovered, CellNamesBelow, HasDistinctKeys, items_at, pairs_at, cost_of_cell};
+    ghost use Rattle.hog_value.specs.Cells.{IsClosed, IsSound, IsCovered, CellNamesBelow, HasDistinctKeys, items_at, pairs_at, text_at, cost_of_cell};
     ghost use Rattle.hog_value.specs.Operations.{Gives, Throws, Spends, made, item_of, key_of, set_item_of, set_key_of, same_of, truth_of};
     ghost use Rattle.hog_value.specs.Views.{cell_of};
 
@@ -185,33 +184,46 @@ impl Heap {
         Ok(())
     }
 
-    /// Sets a key of a dictionary: one that is there keeps its place, and a new one goes last and is charged.
+    /// Sets a key of a dictionary, the text with the number `key`: one that is there keeps its place, and a new one
+    /// is copied, goes last and is charged.
     #[tactic(auto, unfolding(crate::specs::Operations::set_key_of))]
-    pub fn set_key(&mut self, dict: u32, key: &HogText, v: Value, m: &mut Meter) -> Result<(), Stop>
+    pub fn set_key(&mut self, dict: u32, key: u32, v: Value, m: &mut Meter) -> Result<(), Stop>
         requires dict { IsSome (pairs_at self.old dict) }
+        requires key { IsSome (text_at self.old key) }
         requires names { NamesBelow (length self.old) v }
         requires covered { IsCovered self.old m.old.units }
-        ensures ok { OnOk result
-            (set_key_of self.old dict key.now v m.old.units ≡ Gives tt self.new m.new.units) }
+        ensures ok { IfSome (text_at self.old key) (λ text. OnOk result
+            (set_key_of self.old dict text v m.old.units ≡ Gives tt self.new m.new.units)) }
         ensures turns_and_depth { OnOk result (m.new ≡ record m.old { units = m.new.units }) }
-        ensures spent { (result ≡ Err Stop.UnitsSpent)
-            ↔ (set_key_of self.old dict key.now v m.old.units ≡ Spends) }
+        ensures spent { IfSome (text_at self.old key) (λ text. (result ≡ Err Stop.UnitsSpent)
+            ↔ (set_key_of self.old dict text v m.old.units ≡ Spends)) }
         ensures err { OnErr result (self.new ≡ self.old) }
         ensures err_meter { OnErr result (m.new ≡ m.old) }
         ensures count { length self.new ≡ length self.old }
         ensures covered { IsCovered self.new m.new.units }
     {
-        let Cell::Dict(pairs) = &mut self.cells[dict as usize] else {
+        let Cell::Text(text) = self.get(key) else {
             unreachable!()
         };
-        if pairs.replace(key, v) {
+        let Cell::Dict(pairs) = self.get(dict) else {
+            unreachable!()
+        };
+        if let Some(place) = pairs.place(text) {
+            let Cell::Dict(pairs) = &mut self.cells[dict as usize] else {
+                unreachable!()
+            };
+            pairs.set_at(place, v);
             return Ok(());
         }
         let mut paid = *m;
-        if !paid.spend_units((key.bytes().len() as u64).saturating_add(16)) {
+        if !paid.spend_units((text.bytes().len() as u64).saturating_add(16)) {
             return Err(Stop::UnitsSpent);
         }
-        pairs.insert(key.copy()?, v)?;
+        let text = text.copy()?;
+        let Cell::Dict(pairs) = &mut self.cells[dict as usize] else {
+            unreachable!()
+        };
+        pairs.insert(text, v)?;
         *m = paid;
         Ok(())
     }

@@ -26,11 +26,10 @@ impl Model for Pairs {
 }
 
 impl Pairs {
-    ghost use Rattle.std.specs.Prelude.{◌≡◌, ℕ, min, OnOk, OnErr, sum_by, bytes_eq, is_some};
-    ghost use Rattle.std.specs.Bool.{OnTrue, OnFalse};
+    ghost use Rattle.std.specs.Prelude.{◌≡◌, ◌<◌, ℕ, min, length, position, IfSome, OnOk, OnErr, sum_by, bytes_eq, is_some};
     ghost use Rattle.std.specs.List.{IsDistinct};
     ghost use Rattle.std.specs.Map.{keys_of, lookup};
-    ghost use Rattle.indexmap.specs.IndexMap.{insert_entry};
+    ghost use Rattle.indexmap.specs.IndexMap.{insert_entry, set_value_at};
     ghost use Rattle.hog_value.specs.Cells.{cost_of_pair};
 
     /// Takes no memory.
@@ -66,18 +65,25 @@ impl Pairs {
         None
     }
 
-    /// Sets a key that is there, which keeps its place, and answers whether it is. Takes no memory.
-    pub(crate) fn replace(&mut self, key: &HogText, v: Value) -> bool
-        ensures there { result ≡ is_some (lookup (bytes_eq key.now) self.old) }
-        ensures replaced { OnTrue result (self.new ≡ insert_entry bytes_eq self.old key.now v) }
-        ensures unchanged { OnFalse result (self.new ≡ self.old) }
+    /// The place of a key, from 0. Takes no memory.
+    pub(crate) fn place(&self, key: &HogText) -> Option<usize>
+        ensures place { result ≡ position (bytes_eq key.now) (keys_of self.now) }
+        ensures there { is_some result ≡ is_some (lookup (bytes_eq key.now) self.now) }
+        ensures within { IfSome result (λ place. place < length self.now) }
+    {
+        self.map.get_index_of(key)
+    }
+
+    /// Sets the value at a place, whose key stays. Takes no memory.
+    pub(crate) fn set_at(&mut self, place: usize, v: Value)
+        requires { place < length self.old }
+        ensures value { self.new ≡ set_value_at self.old place v }
         ensures distinct { IsDistinct bytes_eq (keys_of self.new) }
     {
-        let Some(place) = self.map.get_mut(key) else {
-            return false;
+        let Some(value) = self.map.get_index_mut(place) else {
+            unreachable!()
         };
-        *place = v;
-        true
+        *value = v;
     }
 
     /// Sets a key: one that is there keeps its place, and a new one goes last.

@@ -2,7 +2,7 @@
 
 ghost use Rattle.std.specs.Prelude.{◌≡◌, IfSome, IsSome, IsTrue, length};
 ghost use Rattle.hog_value.specs.Values.{NamesBelow};
-ghost use Rattle.hog_value.specs.Cells.{IsCovered, items_at, pairs_at};
+ghost use Rattle.hog_value.specs.Cells.{IsCovered, items_at, pairs_at, text_at};
 
 use crate::cell::{Cell, FunCell};
 use crate::heap::Heap;
@@ -55,6 +55,18 @@ fn dict_number(heap: &Heap, v: Value) -> Option<u32>
     }
 }
 
+fn text_number(heap: &Heap, v: Value) -> Option<u32>
+    ensures { IfSome result (λ n. IsSome (text_at heap.now n)) }
+{
+    match v {
+        Value::Ref(n) if (n as usize) < heap.len() => match heap.get(n) {
+            Cell::Text(_) => Some(n),
+            _ => None,
+        },
+        _ => None,
+    }
+}
+
 fn item_of(heap: &Heap, array: Value, index: i64) -> Option<Result<Value, Kind>> {
     Some(heap.item(array_number(heap, array)?, index))
 }
@@ -85,7 +97,7 @@ fn set_item(
 fn set_key(
     heap: &mut Heap,
     dict: Value,
-    key: &HogText,
+    key: Value,
     v: Value,
     m: &mut Meter,
 ) -> Option<Result<(), Stop>>
@@ -93,6 +105,9 @@ fn set_key(
     ensures { IsCovered heap.new m.new.units }
 {
     let Some(dict) = dict_number(heap, dict) else {
+        return None;
+    };
+    let Some(key) = text_number(heap, key) else {
         return None;
     };
     if !is_named(heap, v) {
@@ -181,11 +196,17 @@ fn dictionaries(rt: HostRuntime) -> Result<(), Fail> {
     map.insert(text(alloc, "b")?, Value::Null)?;
     let dict = heap.make(Cell::Dict(Pairs::new(map)), &mut m)?;
     assert_eq!(rt; m.units, 8 + 16 + 1);
-    for (key, v, units) in [("aa", 1, 43), ("b", 2, 43), ("", 3, 59), ("aa", 4, 59)] {
-        let key = text(alloc, key)?;
-        let set = set_key(&mut heap, dict, &key, Value::Int(v), &mut m);
-        assert_eq!(rt; set, Some(Ok(())));
-        assert_eq!(rt; m.units, units);
+    for (key, v, made, set) in [
+        ("aa", 1, 35, 53),
+        ("b", 2, 62, 62),
+        ("", 3, 70, 86),
+        ("aa", 4, 96, 96),
+    ] {
+        let key = heap.make(Cell::Text(text(alloc, key)?), &mut m)?;
+        assert_eq!(rt; m.units, made);
+        let done = set_key(&mut heap, dict, key, Value::Int(v), &mut m);
+        assert_eq!(rt; done, Some(Ok(())));
+        assert_eq!(rt; m.units, set);
     }
     for (key, want) in [
         ("b", Value::Int(2)),
@@ -207,11 +228,14 @@ fn dictionaries(rt: HostRuntime) -> Result<(), Fail> {
             assert_eq!(rt; key, Some(true), "key {i}");
         }
     }
-    assert!(rt; m.spend_units(4_194_304 - 59 - 17));
-    let set = set_key(&mut heap, dict, &text(alloc, "cc")?, Value::Null, &mut m);
+    let long = heap.make(Cell::Text(text(alloc, "cc")?), &mut m)?;
+    let short = heap.make(Cell::Text(text(alloc, "c")?), &mut m)?;
+    assert!(rt; m.spend_units(4_194_304 - 96 - 10 - 9 - 17));
+    let set = set_key(&mut heap, dict, long, Value::Null, &mut m);
     assert_eq!(rt; set, Some(Err(Stop::UnitsSpent)));
-    let set = set_key(&mut heap, dict, &text(alloc, "c")?, Value::Null, &mut m);
+    let set = set_key(&mut heap, dict, short, Value::Null, &mut m);
     assert_eq!(rt; set, Some(Ok(())));
+    assert_eq!(rt; text_number(&heap, dict), None);
     Ok(())
 }
 

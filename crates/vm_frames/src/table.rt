@@ -28,9 +28,9 @@ pub struct Begin<'c> {
     pub literal: u32,
 }
 
-/// What stands at each place of a code, of which there are fewer than 2^32, what is noted of it, and the distinct texts of its
-/// STRING operations in byte order. It is built once, in time linear in the code but for the look-up of each text, and then answers in constant
-/// time.
+/// What stands at each place of a code, of which there are fewer than 2^32, what is noted of it, and the distinct
+/// texts of its STRING operations in byte order. It is built once, in time linear in the code but for the look-up of
+/// each text, and then answers in constant time.
 #[derive(Drop)]
 pub struct Table<'c> {
     slots: Vec<Slot<'c>>,
