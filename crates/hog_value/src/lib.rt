@@ -11,8 +11,6 @@ pub mod items;
 pub mod meter;
 pub mod native;
 pub mod pairs;
-#[cfg(test)]
-mod tests;
 pub mod text;
 pub mod trace;
 pub mod value;
