@@ -11,8 +11,6 @@ mod lines;
 mod nulled;
 mod reading;
 mod style;
-#[cfg(test)]
-mod tests;
 mod texts;
 mod walk;
 
