@@ -12,8 +12,6 @@ mod list_natives;
 pub mod making;
 mod product;
 mod stop;
-#[cfg(test)]
-mod tests;
 mod text_natives;
 mod texts;
 
