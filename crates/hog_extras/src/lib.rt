@@ -6,7 +6,5 @@
 #![tactic(auto)]
 
 pub mod dates;
-#[cfg(test)]
-mod tests;
 
 pub use dates::{date_text, reads_date, weekday};
