@@ -10,8 +10,6 @@ pub mod laws;
 mod layout;
 mod printer;
 mod quotes;
-#[cfg(test)]
-mod tests;
 mod words;
 
 pub use printer::print_tree;
