@@ -13,8 +13,6 @@ mod operators;
 mod order;
 mod reading;
 mod setting;
-#[cfg(test)]
-mod tests;
 
 pub use dictionary::make_dictionary;
 pub use first::make_first_cells;
