@@ -10,8 +10,6 @@ mod resolver;
 mod scope;
 mod scoped;
 mod stop;
-#[cfg(test)]
-mod tests;
 mod texts;
 mod words;
 
