@@ -10,8 +10,6 @@ mod declared;
 mod finder;
 mod frame;
 mod takes;
-#[cfg(test)]
-mod tests;
 mod words;
 
 pub use captured::Captured;
