@@ -138,6 +138,3 @@ impl<'c> Table<'c> {
         Ok(texts)
     }
 }
-
-#[cfg(test)]
-mod tests;
