@@ -8,7 +8,5 @@
 mod slice;
 mod start;
 pub mod steps;
-#[cfg(test)]
-mod tests;
 
 pub use steps::{Pause, StartStop, Steps};
