@@ -199,30 +199,3 @@ impl JobInput {
             && self.answers.is_same(&other.answers)
     }
 }
-
-#[cfg(test)]
-mod tests {
-    use super::*;
-    use std::test::Fail;
-
-    fn replies(alloc: Global, statuses: &[u16]) -> Result<Replies, AllocError> {
-        let mut items = Vec::new(alloc);
-        for &status in statuses {
-            let body = HogText::from_string(String::from_str(alloc, "null")?);
-            items.push(Reply { status, body })?;
-        }
-        Ok(Replies::new(items))
-    }
-
-    #[test]
-    fn copies_are_same(rt: HostRuntime) -> Result<(), Fail> {
-        let two = Answers::Listed(replies(rt.alloc(), &[200, 404])?);
-        assert!(rt; two.copy()?.is_same(&two));
-        for other in [&[200][..], &[200, 404, 404], &[200, 500]] {
-            let other = Answers::Listed(replies(rt.alloc(), other)?);
-            assert!(rt; !two.is_same(&other));
-        }
-        assert!(rt; !two.is_same(&Answers::Free));
-        Ok(())
-    }
-}

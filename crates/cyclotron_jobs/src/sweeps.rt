@@ -71,24 +71,3 @@ impl Sweeps {
         self.count -= 1;
     }
 }
-
-#[cfg(test)]
-mod tests {
-    use super::*;
-
-    #[test]
-    fn three_sweeps(rt: HostRuntime) {
-        let mut sweeps = Sweeps::new();
-        for now in [30000, 60000, 90000] {
-            assert!(rt; sweeps.len() < 3);
-            sweeps.push(now, now - 30000);
-        }
-        assert_eq!(rt;
-            sweeps.copy().items(),
-            [(30000, 0), (60000, 30000), (90000, 60000)].as_slice()
-        );
-        assert!(rt; sweeps.len() == 3);
-        sweeps.pop();
-        assert_eq!(rt; sweeps.items(), [(30000, 0), (60000, 30000)].as_slice());
-    }
-}
