@@ -9,8 +9,6 @@ pub mod calls;
 pub mod forms;
 pub mod shown;
 pub mod stop;
-#[cfg(test)]
-mod tests;
 pub mod upvalues;
 pub mod values;
 
