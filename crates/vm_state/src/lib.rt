@@ -13,8 +13,6 @@ mod reading;
 pub mod saved;
 mod standing;
 pub mod stop;
-#[cfg(test)]
-mod tests;
 mod writing;
 
 pub use saved::{load, save};
