@@ -6,8 +6,6 @@
 
 mod decoder;
 mod encoder;
-#[cfg(test)]
-mod tests;
 
 pub use bytecode_front::stop::CodeStop;
 pub use decoder::decode;
