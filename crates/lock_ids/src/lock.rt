@@ -82,35 +82,3 @@ impl LockId {
         Ok(LockId { job, draw: low })
     }
 }
-
-#[cfg(test)]
-mod tests {
-    use super::*;
-    use std::test::Fail;
-
-    #[test]
-    fn texts_of_ids(rt: HostRuntime) -> Result<(), Fail> {
-        let cases = [
-            (0, 1, "00000000-0000-0000-0000-000000000001"),
-            (1, 2, "00000000-0000-0001-0000-000000000002"),
-            (u32::MAX, u64::MAX, "00000000-ffff-ffff-ffff-ffffffffffff"),
-        ];
-        for (job, draw, text) in cases {
-            let id = LockId::of(job, draw);
-            let written = id.text(rt.alloc())?;
-            assert_eq!(rt; written.bytes(), text.as_bytes());
-            assert_eq!(rt; LockId::read(rt.alloc(), &written), Ok(id));
-            assert_eq!(rt; (id.job(), id.draw()), (job, draw));
-        }
-        Ok(())
-    }
-
-    #[test]
-    fn texts_of_no_id(rt: HostRuntime) -> Result<(), Fail> {
-        for text in ["", "x", "00000001-0000-0000-0000-000000000001"] {
-            let text = HogText::from_string(String::from_str(rt.alloc(), text)?);
-            assert_eq!(rt; LockId::read(rt.alloc(), &text), Err(LockStop::NotAnId));
-        }
-        Ok(())
-    }
-}
