@@ -7,7 +7,5 @@
 
 pub mod course;
 pub mod laws;
-#[cfg(test)]
-mod tests;
 
 pub use course::{HogCourse, InputStop, Prepared};
