@@ -8,8 +8,6 @@
 pub mod put;
 pub mod queue;
 pub mod stop;
-#[cfg(test)]
-mod tests;
 
 pub use cyclotron_jobs::refused::{LeaseStop, Refused};
 pub use queue::QueueState;
