@@ -10,8 +10,6 @@ pub mod laws;
 pub mod script;
 mod source;
 pub mod step;
-#[cfg(test)]
-mod tests;
 mod values;
 
 pub use script::{Script, read_script};
