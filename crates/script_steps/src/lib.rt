@@ -10,8 +10,6 @@ mod lines;
 pub mod player;
 pub mod said;
 mod steps;
-#[cfg(test)]
-mod tests;
 
 pub use player::{Played, play};
 pub use said::{Held, Product, Said};
