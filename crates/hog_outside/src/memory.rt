@@ -125,38 +125,3 @@ impl Sink for MemSink {
         Ok(n)
     }
 }
-
-#[cfg(test)]
-mod tests {
-    use crate::memory::{MemSink, MemSource};
-    use crate::streams::{Sink, Source};
-    use std::test::Fail;
-
-    #[test]
-    fn reads_in_parts(rt: HostRuntime) -> Result<(), Fail> {
-        let alloc = rt.alloc();
-        let bytes = b"hello".as_slice().to_vec(alloc)?;
-        let mut source = MemSource::new(bytes, vec![in alloc; 2]?);
-        let mut buf = [0u8; 3];
-        assert_eq!(rt; source.read(&mut buf), Ok(3));
-        assert_eq!(rt; buf.as_slice(), b"hel".as_slice());
-        assert!(rt; source.read(&mut buf).is_err());
-        assert_eq!(rt; source.read(&mut buf), Ok(2));
-        assert_eq!(rt; buf.as_slice(), b"lol".as_slice());
-        assert_eq!(rt; source.read(&mut buf), Ok(0));
-        Ok(())
-    }
-
-    #[test]
-    fn takes_what_it_has_room_for(rt: HostRuntime) -> Result<(), Fail> {
-        let alloc = rt.alloc();
-        let mut sink = MemSink::new(alloc, 7, vec![in alloc; 2]?)?;
-        assert_eq!(rt; sink.write(b"hello"), Ok(5));
-        assert!(rt; sink.write(b"there").is_err());
-        assert_eq!(rt; sink.write(b"there"), Ok(2));
-        assert!(rt; sink.write(b"ere").is_err());
-        assert_eq!(rt; sink.write(b""), Ok(0));
-        assert_eq!(rt; sink.bytes(), b"helloth".as_slice());
-        Ok(())
-    }
-}
