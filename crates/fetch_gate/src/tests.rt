@@ -1,9 +1,9 @@
 //! Fetchers and the gate over a toy course, which any job is on.
 
-ghost use Rattle.std.specs.Prelude.{◌≡◌, IfOk};
+ghost use Rattle.std.specs.Prelude.{◌≡◌};
 
 use crate::failing::FailingFetcher;
-use crate::fetcher::{FetchStop, Fetcher};
+use crate::fetcher::Fetcher;
 use crate::gate::{GateStop, answer};
 use crate::listed::ListFetcher;
 use cyclotron_jobs::course::Course;
@@ -106,31 +106,6 @@ fn lease(alloc: Global, input: JobInput, replies: Replies, asks: Request, tries:
     }
 }
 
-/// The reply of a fetcher to a fetch of that number.
-fn fetched<F: Fetcher>(
-    alloc: Global,
-    fetcher: &mut F,
-    is_free: bool,
-    n: u32,
-    tries: u8,
-) -> Result<Reply, FetchStop> {
-    let Ok(input) = input(alloc, is_free) else {
-        return Err(FetchStop::OutOfMemory);
-    };
-    let Ok(request) = request(alloc) else {
-        return Err(FetchStop::OutOfMemory);
-    };
-    fetcher.fetch(alloc, &input, n, tries, &request)
-}
-
-/// Why a fetch failed, where it did.
-fn failure<F: Fetcher>(alloc: Global, fetcher: &mut F, tries: u8) -> Option<FetchStop> {
-    match fetched(alloc, fetcher, false, 0, tries) {
-        Ok(_reply) => None,
-        Err(stop) => Some(stop),
-    }
-}
-
 /// The status with which the request of a job is answered that has so many replies.
 fn answered<F: Fetcher>(
     alloc: Global,
@@ -154,53 +129,6 @@ fn list_fetcher(alloc: Global, misses: u8) -> Result<ListFetcher, AllocError> {
 fn failing_fetcher(alloc: Global) -> Result<FailingFetcher, AllocError> {
     let fails = Numbers::new(vec![in alloc; 1, 3]?);
     Ok(FailingFetcher::new(reply(alloc, 201, "{}")?, fails))
-}
-
-#[test]
-fn replies_of_lists(rt: HostRuntime) -> Result<(), Fail> {
-    let mut fetcher = list_fetcher(rt.alloc(), 0)?;
-    let rows = [
-        (false, 0, 200, "\"ok\""),
-        (false, 1, 503, "[1]"),
-        (false, 2, 404, "null"),
-        (false, u32::MAX, 404, "null"),
-        (true, 0, 201, "{}"),
-        (true, 5, 201, "{}"),
-    ];
-    for (is_free, n, status, body) in rows {
-        let reply = fetched(rt.alloc(), &mut fetcher, is_free, n, 0)?;
-        assert_eq!(rt; reply.status, status, "of {n}");
-        assert_eq!(rt; reply.body.bytes(), body.as_bytes(), "of {n}");
-    }
-    Ok(())
-}
-
-#[test]
-fn the_first_tries_miss(rt: HostRuntime) -> Result<(), Fail> {
-    let mut fetcher = list_fetcher(rt.alloc(), 2)?;
-    for (tries, fails) in [(0, true), (1, true), (2, false), (255, false), (0, true)] {
-        let stop = if fails { Some(FetchStop::Failed) } else { None };
-        assert_eq!(rt;
-            failure(rt.alloc(), &mut fetcher, tries),
-            stop,
-            "at {tries}"
-        );
-    }
-    Ok(())
-}
-
-#[test]
-fn chosen_calls_fail(rt: HostRuntime) -> Result<(), Fail> {
-    let mut fetcher = failing_fetcher(rt.alloc())?;
-    for (call, fails) in [(1, true), (2, false), (3, true), (4, false)] {
-        let stop = if fails { Some(FetchStop::Failed) } else { None };
-        assert_eq!(rt;
-            failure(rt.alloc(), &mut fetcher, 0),
-            stop,
-            "at call {call}"
-        );
-    }
-    Ok(())
 }
 
 #[test]
