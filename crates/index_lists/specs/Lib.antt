@@ -1,0 +1,4 @@
+pub mod Links
+pub mod Lists
+pub mod Order
+pub mod Numbers
