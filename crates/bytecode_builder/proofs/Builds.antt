@@ -8,7 +8,7 @@ use Rattle.hog_ops.specs.Plain.{Op, Ops, Callable, NoOp, MoreOp, ◌⊕◌}
 use Rattle.hog_ops.specs.Table.{row, size, span}
 use Rattle.hog_ops.specs.Valid.{op_height, height, row_leads, or_then, op_lost, lost_in, lost}
 use Rattle.hog_ops.specs.View.{op_of, ops_of, ops_of-append}
-use Rattle.hog_ops.specs.Join.{join_assoc, join_none, span-join}
+use Rattle.hog_ops.proofs.Join.{join_assoc, join_none, span-join}
 use Rattle.bytecode_front.specs.declared.stop.CodeStop.{CodeStop}
 use Rattle.bytecode_front.specs.declared.stop.CodeStop.TheVariants as stops
 use Rattle.bytecode_front.specs.declared.stop.Why.{Why}
@@ -17,9 +17,9 @@ use Rattle.bytecode_builder.specs.Marks.{op_marks, marks, HasMarks}
 use Rattle.bytecode_front.specs.Reading.{stop_at, before, holding, callable_size, read_front, read_ops}
 use Rattle.bytecode_builder.specs.Placed.{StopIs, Answers, on_lost, placed}
 use Rattle.bytecode_builder.proofs.Places.{marks_count}
-use Rattle.bytecode_front.specs.Known.{before_is, holding_is}
+use Rattle.bytecode_front.proofs.Known.{before_is, holding_is}
 use Rattle.bytecode_builder.proofs.Scans.{marks-join, stop_out}
-use Rattle.bytecode_front.specs.Steps.{read_step, read_none}
+use Rattle.bytecode_front.proofs.Steps.{read_step, read_none}
 
 -- the operations that were read
 abbrev pub ops_read : Result Ops CodeStop → Ops

@@ -7,7 +7,7 @@ use Rattle.std.specs.List.{AllByRecursion}
 use Rattle.hog_ops.specs.declared.capture.Capture.{Capture}
 use Rattle.hog_ops.specs.Plain.{Op, Ops, Callable, NoOp, MoreOp}
 use Rattle.hog_ops.specs.Table.{Row, Alone, Counts, Leads, Calls, Spells, Gives, Holds, size, span}
-use Rattle.hog_ops.specs.Counts.{size_some}
+use Rattle.hog_ops.proofs.Counts.{size_some}
 use Rattle.hog_ops.specs.Valid.{op_height, height, is_place, is_place_of, may_lead, row_leads}
 use Rattle.bytecode_builder.specs.Marks.{op_marks, marks, is_marked, row_led}
 

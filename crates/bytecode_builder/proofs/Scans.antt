@@ -13,7 +13,7 @@ use Rattle.bytecode_front.specs.Front.{Front, Faulty, Found, Opens, front_of}
 use Rattle.bytecode_front.specs.Reading.{stop_at, before, holding, callable_size, read_front, read_ops}
 use Rattle.bytecode_builder.specs.Placed.{StopIs}
 use Rattle.bytecode_builder.specs.Marks.{op_marks, marks, Scanned}
-use Rattle.bytecode_front.specs.Steps.{read_step, read_none}
+use Rattle.bytecode_front.proofs.Steps.{read_step, read_none}
 
 -- operations, and those that are read behind them
 abbrev pub after : Ops → Result Ops CodeStop → Result Ops CodeStop

@@ -113,7 +113,7 @@ fn captures_at(alloc: Global, n: u32, items: &[Value]) -> Result<Captures, Alloc
 }
 
 /// The CALLABLE at the front with this body.
-#[tactic(auto, using(bytecode_front::specs::Slices::drop_views))]
+#[tactic(auto, using(bytecode_front::proofs::Slices::drop_views))]
 fn callable(
     alloc: Global,
     items: &[Value],

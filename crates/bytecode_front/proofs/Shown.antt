@@ -5,7 +5,7 @@ use Rattle.serde_json.specs.Data.{Data}
 use Rattle.hog_ops.specs.declared.capture.Capture.{Capture}
 use Rattle.bytecode_front.specs.declared.stop.Why.TheVariants.{Bad}
 use Rattle.bytecode_front.specs.Front.{Front, Faulty, Opens, closure_in, with_captures, opened_by}
-use Rattle.bytecode_front.specs.Fronts.{closure_text, and_true}
+use Rattle.bytecode_front.proofs.Fronts.{closure_text, and_true}
 
 some_is : {A : Type 0} (o : Option A) → is_some o ≡ true → (x : A) × (o ≡ Some x)
 some_is None h = absurd cc

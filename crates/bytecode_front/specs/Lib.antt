@@ -2,11 +2,3 @@ pub mod Elements
 pub mod Front
 pub mod Reading
 pub mod Views
-pub mod Names
-pub mod Numbered
-pub mod Operands
-pub mod Fronts
-pub mod Steps
-pub mod Known
-pub mod Slices
-pub mod Captures

@@ -251,7 +251,7 @@ fn closure_is_there(n: u32, items: &[Value]) -> bool
 }
 
 /// The elements behind the first n.
-#[tactic(auto, using(crate::specs::Slices::drop_whole))]
+#[tactic(auto, using(crate::proofs::Slices::drop_whole))]
 pub fn behind(items: &[Value], n: usize) -> &[Value]
     requires { n ≤ length items.now }
     ensures { result.now ≡ drop n items.now }

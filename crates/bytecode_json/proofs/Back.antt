@@ -11,7 +11,7 @@ use Rattle.hog_ops.specs.declared.capture.Capture.{Capture}
 use Rattle.hog_ops.specs.Plain.{Op, Ops, GetGlobal, CallGlobal, And, Or, Not, Plus, Minus, Multiply, Eq, NotEq, Gt, GtEq, Lt, LtEq, IsIn, NotIn, PushTrue, PushFalse, PushNull, Str, Integer, Pop, GetLocal, SetLocal, Return, Jump, JumpIfFalse, Dict, Array, GetProperty, SetProperty, JumpIfStackNotNull, GetPropertyNullish, Throw, Try, PopTry, Callable, CallLocal, GetUpvalue, SetUpvalue, CloseUpvalue, NoOp, MoreOp}
 use Rattle.hog_ops.specs.Table.{size, span, plain_ops, count_ops, jump_ops, numbered}
 use Rattle.hog_ops.specs.Elements.{Elem, Whole, Text, Flag, capture_elements, closure_elements, op_elements, elements}
-use Rattle.hog_ops.specs.Counts.{op_count, elements_count, size_some}
+use Rattle.hog_ops.proofs.Counts.{op_count, elements_count, size_some}
 use Rattle.hog_ops.specs.Ranges.{IsU32, IsI64, CapturesFit, OpFits, OpsFit}
 use Rattle.hog_ops.specs.Valid.{op_allowed, allowed, op_height, height}
 use Rattle.bytecode_front.specs.declared.stop.CodeStop.{CodeStop}
@@ -19,7 +19,7 @@ use Rattle.bytecode_front.specs.declared.stop.Why.TheVariants.{Bad}
 use Rattle.bytecode_front.specs.Front.{Front, Faulty, Found, Opens, whole_in, small_of, small_in, is_small, capture_by, with_more, captures_in, closure_in, found, count_in, jump_in, integer_in, call_in, with_captures, opened_by, opened, front_of}
 use Rattle.bytecode_front.specs.Reading.{before, holding, callable_size, read_front, read_by, read_ops}
 use Rattle.bytecode_front.specs.Elements.{elem_data}
-use Rattle.bytecode_front.specs.Names.{name_named}
+use Rattle.bytecode_front.proofs.Names.{name_named}
 
 abbrev pub datas : List Elem → List Data
 datas es = map elem_data es

@@ -13,8 +13,8 @@ use Rattle.hog_ops.specs.Elements.{Elem, Whole, Text, Flag, operands, capture_el
 use Rattle.hog_ops.specs.Ranges.{IsI64, CapturesFit, RowFits, OpFits, OpsFit}
 use Rattle.hog_ops.specs.Valid.{lost, IsCode}
 use Rattle.serde_json.specs.Written.{compact_text, has_float}
-use Rattle.plain_json.specs.Fine.{Fine, AllFine, ◌&◌, done, fine_list, no_float}
-use Rattle.plain_json.specs.Inverse.{reads_back}
+use Rattle.plain_json.proofs.Fine.{Fine, AllFine, ◌&◌, done, fine_list, no_float}
+use Rattle.plain_json.proofs.Inverse.{reads_back}
 use Rattle.bytecode_front.specs.declared.stop.CodeStop.{CodeStop}
 use Rattle.bytecode_front.specs.Reading.{read_ops}
 use Rattle.bytecode_front.specs.Elements.{elem_data}
@@ -22,7 +22,7 @@ use Rattle.bytecode_json.specs.Text.{code_data, code_text, max_room, behind_head
 use Rattle.bytecode_builder.specs.Placed.{on_lost, placed}
 use Rattle.bytecode_front.specs.declared.stop.CodeStop.TheVariants as stops
 use Rattle.bytecode_json.proofs.Back.{datas, elements_back}
-use Rattle.hog_ops.specs.Lost.{lost_none}
+use Rattle.hog_ops.proofs.Lost.{lost_none}
 use Rattle.bytecode_json.proofs.Sized.{length-items}
 
 -- a whole number of 64 bits, a text or a truth value

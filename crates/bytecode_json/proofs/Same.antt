@@ -20,8 +20,8 @@ use Rattle.bytecode_front.specs.Reading.{read_ops}
 use Rattle.bytecode_front.specs.Elements.{elem_data}
 use Rattle.bytecode_json.specs.Text.{code_data, code_text, max_room, is_one, is_word, behind_version, behind_header, of_elements, items_list, of_array, of_read, decode_of}
 use Rattle.bytecode_builder.specs.Placed.{on_lost, placed}
-use Rattle.bytecode_front.specs.Operands.{elem_text, texts, elem_texts, whole_text, str_text}
-use Rattle.bytecode_front.specs.Known.{is_read}
+use Rattle.bytecode_front.proofs.Operands.{elem_text, texts, elem_texts, whole_text, str_text}
+use Rattle.bytecode_front.proofs.Known.{is_read}
 
 -- the text of an array's items behind its bracket, from their texts
 abbrev joined : Bool → List (List ℕ) → List ℕ

@@ -6,7 +6,7 @@ use Rattle.serde_json.specs.Data.{Data}
 use Rattle.hog_ops.specs.declared.capture.Capture.{Capture}
 use Rattle.hog_ops.specs.declared.operation.Op.{Op}
 use Rattle.hog_ops.specs.Elements.{Elem, Whole, Flag, capture_elements, op_elements, elements}
-use Rattle.hog_ops.specs.Join.{elements-join}
+use Rattle.hog_ops.proofs.Join.{elements-join}
 use Rattle.hog_ops.specs.Plain.{NoOp, MoreOp}
 use Rattle.hog_ops.specs.Ranges.{IsU32, CapturesFit, OpFits, OpsFit}
 use Rattle.hog_ops.specs.Table.{size, span}

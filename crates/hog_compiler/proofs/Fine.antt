@@ -4,7 +4,7 @@ use Rattle.hog_ops.specs.Plain as o
 use Rattle.hog_ops.specs.Plain.{Op, Ops, NoOp, MoreOp, ◌⊕◌}
 use Rattle.hog_ops.specs.Table.{size, span}
 use Rattle.hog_ops.specs.Valid.{op_allowed, allowed, op_height, height, is_place, or_then, op_lost, lost_in, lost}
-use Rattle.hog_ops.specs.Join.{join_assoc, join_none, span-join, allowed-join, height-join, is_place-join, is_place-seam, lost-within, lost-join}
+use Rattle.hog_ops.proofs.Join.{join_assoc, join_none, span-join, allowed-join, height-join, is_place-join, is_place-seam, lost-within, lost-join}
 use Rattle.hog_compiler.specs.Pieces.{one, coalesce_code, if_code, if_else_code, try_code}
 
 -- a code by itself, in which at most so many bodies stand in one another

@@ -11,8 +11,8 @@ use Rattle.hog_ops.specs.Plain as o
 use Rattle.hog_ops.specs.Plain.{Op, Ops, NoOp, MoreOp, ◌⊕◌}
 use Rattle.hog_ops.specs.Table.{span}
 use Rattle.hog_ops.specs.Valid.{is_place, is_place_of, may_lead, or_then, op_lost, lost_in, lost}
-use Rattle.hog_ops.specs.Lost.{lost_none}
-use Rattle.hog_ops.specs.Join.{join_assoc, join_none, span-join, allowed-join, height-join, is_place-seam, lost_in-join, lost-within}
+use Rattle.hog_ops.proofs.Lost.{lost_none}
+use Rattle.hog_ops.proofs.Join.{join_assoc, join_none, span-join, allowed-join, height-join, is_place-seam, lost_in-join, lost-within}
 use Rattle.hog_tree.specs.Plain.{Word}
 use Rattle.hog_tree.specs.declared.tree.BinaryOp.{BinaryOp}
 use Rattle.hog_tree.specs.declared.tree.BinaryOp.TheVariants as b

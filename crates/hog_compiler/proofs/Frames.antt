@@ -1,7 +1,7 @@
 -- Frames that grow and are left.
 use Rattle.std.proofs.Common.{◌≡◌, ◌<◌, ℕ, zero, suc, ◌+◌, List, [], ◌∷◌, ◌++◌, length, take, get_or, Option, Some, None, refl, sym, ap, ◌∙◌}
 use Rattle.hog_ops.specs.Plain.{Ops, ◌⊕◌}
-use Rattle.hog_ops.specs.Join.{join_assoc, join_none}
+use Rattle.hog_ops.proofs.Join.{join_assoc, join_none}
 use Rattle.hog_tree.specs.Plain.{Word, Stms, Done, Then}
 use Rattle.hog_tree.specs.declared.tree.Stmt.{Stmt}
 use Rattle.hog_tree.specs.View.{stm_of, stms_from}

@@ -1,7 +1,7 @@
 -- Operations that are written one after another.
 use Rattle.std.proofs.Common.{◌≡◌, sym, ap, ◌∙◌}
 use Rattle.hog_ops.specs.Plain.{Ops, NoOp, ◌⊕◌}
-use Rattle.hog_ops.specs.Join.{join_assoc, join_none}
+use Rattle.hog_ops.proofs.Join.{join_assoc, join_none}
 use Rattle.hog_compiler.specs.Adds.{Adds}
 
 -- nothing

@@ -3,7 +3,7 @@ use Rattle.std.proofs.Common.{◌≡◌, ◌≤◌, ◌<◌, ℕ, zero, suc, ◌
 use Rattle.std.proofs.lemmas.List.{take_more, take_all}
 use Rattle.hog_ops.specs.Plain as o
 use Rattle.hog_ops.specs.Plain.{Ops, NoOp, MoreOp, ◌⊕◌}
-use Rattle.hog_ops.specs.Join.{join_assoc}
+use Rattle.hog_ops.proofs.Join.{join_assoc}
 use Rattle.hog_scope.specs.Words.{count_of}
 use Rattle.hog_tree.specs.Plain as p
 use Rattle.hog_tree.specs.Plain.{Word, Stm, Stms, Done, Then, NoPart, MorePair, NoPair}

@@ -1,5 +1,5 @@
 //! The code of each form.
-#![tactic(auto, using(hog_ops::specs::Join::join_assoc, hog_ops::specs::Join::join_none))]
+#![tactic(auto, using(hog_ops::proofs::Join::join_assoc, hog_ops::proofs::Join::join_none))]
 
 ghost use Rattle.std.specs.Prelude.{◌≡◌, ◌≤◌, OnOk};
 ghost use Rattle.hog_ops.specs.View.{op_of};

@@ -1,5 +1,5 @@
 //! The loop over items.
-#![tactic(auto, using(hog_ops::specs::Join::join_assoc, hog_ops::specs::Join::join_none))]
+#![tactic(auto, using(hog_ops::proofs::Join::join_assoc, hog_ops::proofs::Join::join_none))]
 
 ghost use Rattle.std.specs.Prelude.{◌≡◌, ◌+◌, false, IfOk, OnOk};
 ghost use Rattle.hog_tree.specs.View.{option_word_of, stms_from};

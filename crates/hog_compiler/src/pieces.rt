@@ -96,7 +96,7 @@ pub fn lambda_name(alloc: Global) -> Result<HogText, AllocError>
 }
 
 /// The value of a word.
-#[tactic(auto, using(hog_ops::specs::Join::join_assoc, hog_ops::specs::Join::join_none))]
+#[tactic(auto, using(hog_ops::proofs::Join::join_assoc, hog_ops::proofs::Join::join_none))]
 pub fn read(out: &mut Draft, frame: &Frame, word: &HogText) -> Result<(), AllocError>
     ensures { OnOk result (Adds out.old out.new
         (read_code (find_local frame.now.locals word.now) (find_up frame.now.ups word.now) word.now)) }
@@ -124,7 +124,7 @@ pub fn write(frame: &Frame, word: &HogText) -> Op
     }
 }
 
-#[tactic(auto, using(hog_ops::specs::Join::join_assoc, hog_ops::specs::Join::join_none))]
+#[tactic(auto, using(hog_ops::proofs::Join::join_assoc, hog_ops::proofs::Join::join_none))]
 impl Draft {
     /// The second, where what is written gives null.
     pub fn coalesce(&mut self, second: Draft) -> Result<(), AllocError>

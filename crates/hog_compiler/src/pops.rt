@@ -1,5 +1,5 @@
 //! Locals come off the stack.
-#![tactic(auto, using(hog_ops::specs::Join::join_assoc, hog_ops::specs::Join::join_none))]
+#![tactic(auto, using(hog_ops::proofs::Join::join_assoc, hog_ops::proofs::Join::join_none))]
 
 ghost use Rattle.std.specs.Prelude.{◌≡◌, ◌++◌, ◌||◌, [], false, if◌then◌else◌, OnOk};
 ghost use Rattle.hog_ops.specs.Plain as o;

@@ -1,3 +1,4 @@
+pub mod CourseRuns
 pub mod RowLemmas
 pub mod GlobalsLemmas
 pub mod ShortRuns

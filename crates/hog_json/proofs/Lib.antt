@@ -8,4 +8,3 @@ mod KeysLemmas
 pub mod ReadingLemmas
 pub mod Naturality
 pub mod Growing
-pub mod Staying

@@ -13,5 +13,4 @@ pub mod TextNaturality
 pub mod CellNaturality
 pub mod CalledNaturality
 pub mod CalledGrowing
-pub mod Kept
 pub mod KeptCells

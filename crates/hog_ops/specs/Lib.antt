@@ -6,7 +6,3 @@ pub mod Stored
 pub mod View
 pub mod Falls
 pub mod Ranges
-pub mod Counts
-pub mod Lost
-pub mod Slots
-pub mod Join

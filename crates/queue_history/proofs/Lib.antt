@@ -4,5 +4,4 @@ pub mod Step
 pub mod Enqueue
 pub mod Steps
 pub mod First
-pub mod Sweeps
 mod Examples

@@ -1,7 +1,7 @@
 -- Frames, throw frames, upvalues and modes are read from what was written of them, which is plain and shallow.
 use Rattle.std.proofs.Common.{◌≡◌, Some, refl, arith}
 use Rattle.std.specs.Prelude.{codes}
-use Rattle.plain_json.specs.Fine.{Fine, ◌&◌, done, fine_list}
+use Rattle.plain_json.proofs.Fine.{Fine, ◌&◌, done, fine_list}
 use Rattle.hog_value.specs.declared.trace.End.TheVariants as end
 use Rattle.vm_course.specs.State.{Upvalue, Opened, Closed, Frame, ThrowFrame, Running, Waiting, Ended, Mode}
 use Rattle.state_forms.specs.Calls.{frame_in, frame_data, FrameFits, throw_in, throw_data, ThrowFits, upvalue_in, upvalue_data, UpvalueFits, mode_in, mode_data}

@@ -10,7 +10,7 @@ use Rattle.hog_value.specs.declared.trace.End.TheVariants.{Done, Threw, TurnsSpe
 use Rattle.hog_value.specs.Values.{Val}
 use Rattle.hog_value.specs.declared.value.Value.TheVariants.{Null, Bool as Truth, Int, Ref}
 use Rattle.hog_value.specs.Cells.{CellOf, Text, Array, Dict, Fun}
-use Rattle.plain_json.specs.Fine.{Fine, ◌&◌, done, fine_list, fine_map, fine_more}
+use Rattle.plain_json.proofs.Fine.{Fine, ◌&◌, done, fine_list, fine_map, fine_more}
 use Rattle.state_forms.specs.Shapes.{number_data, maybe_data}
 use Rattle.state_forms.specs.Values.{value_data, pair_data, cell_data, ValueFits, PairFits, CellFits}
 use Rattle.state_forms.specs.Shown.{item_data, end_data}

@@ -9,7 +9,7 @@ use Rattle.hog_ops.specs.Plain.{Op, Ops, NoOp, MoreOp, Callable}
 use Rattle.hog_ops.specs.Table.{Row, Alone, Counts, Leads, Calls, Spells, Gives, Holds, row, size, span}
 use Rattle.hog_ops.specs.Valid as valid
 use Rattle.hog_ops.specs.Valid.{op_allowed, allowed, row_allowed, is_place_of, may_lead, row_leads, or_then, op_lost, lost_in, lost, IsCode}
-use Rattle.hog_ops.specs.Lost.{or_then_none}
+use Rattle.hog_ops.proofs.Lost.{or_then_none}
 use Rattle.vm_course.specs.State.{Slot, Begins, BodyEnds, Operand, op_slots, slots, code_slots, header}
 use Rattle.vm_course.specs.Step.{place_at}
 use Rattle.vm_course.specs.Belongs.{stands_at, is_place}

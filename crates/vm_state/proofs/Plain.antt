@@ -2,8 +2,8 @@
 use Rattle.std.proofs.Common.{◌≡◌, Some, reverse, arith}
 use Rattle.std.specs.Prelude.{codes}
 use Rattle.serde_json.specs.Read.{read}
-use Rattle.plain_json.specs.Fine.{Fine, AllFine, ◌&◌, done, fine_list, fine_map, fine_more}
-use Rattle.plain_json.specs.Inverse.{reads_back}
+use Rattle.plain_json.proofs.Fine.{Fine, AllFine, ◌&◌, done, fine_list, fine_map, fine_more}
+use Rattle.plain_json.proofs.Inverse.{reads_back}
 use Rattle.state_forms.specs.Values.{value_data, cell_data, ValueFits, CellFits}
 use Rattle.state_forms.specs.Shown.{item_data}
 use Rattle.state_forms.specs.Calls.{frame_data, FrameFits, throw_data, ThrowFits, upvalue_data, UpvalueFits}

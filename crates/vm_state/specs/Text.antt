@@ -29,10 +29,6 @@ where_state (Some w) = if is_written w then Some w else None
 unfoldable pub state_in : Data → Option Written
 state_in d = where_state (written_in d)
 
--- the bytes are the one text of what was read, in their own format
-abbrev pub is_canonical : List ℕ → Written → Type 0
-is_canonical bytes w = text_in w.format w.saved ≡ bytes
-
 abbrev pub of_written : Ops → List ℕ → Option Written → Result RunState StateStop
 of_written code bytes None = Err stops.NotAState
 of_written code bytes (Some w) =

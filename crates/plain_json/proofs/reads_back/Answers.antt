@@ -1,4 +1,4 @@
-use Rattle.plain_json.specs.Inverse.{reads_back}
+use Rattle.plain_json.proofs.Inverse.{reads_back}
 use Rattle.plain_json.proofs.reads_back.Goals as goal
 
 pub returns : goal.returns

@@ -20,11 +20,11 @@ use Rattle.bytecode_front.specs.Reading.{callable_size, read_ops}
 use Rattle.bytecode_builder.specs.Placed.{StopIs, on_lost, placed}
 use Rattle.bytecode_front.specs.Views.{views, CallableAt}
 use Rattle.bytecode_builder.proofs.Builds.{ops_read, was_read, Building, building_start, building_at, no_fault, found_first, opens_first, building_more, led_none, building_lost, building_stop, inner_done, building_end, inner_marks}
-use Rattle.bytecode_front.specs.Fronts.{Opened, front_found, front_opens, front_str}
-use Rattle.hog_ops.specs.Lost.{lost_none}
+use Rattle.bytecode_front.proofs.Fronts.{Opened, front_found, front_opens, front_str}
+use Rattle.hog_ops.proofs.Lost.{lost_none}
 use Rattle.bytecode_builder.proofs.Places.{marks_count, row_tell}
-use Rattle.bytecode_front.specs.Known.{IsRead, is_read}
-use Rattle.bytecode_front.specs.Slices.{views_drop, views_part, views_length}
+use Rattle.bytecode_front.proofs.Known.{IsRead, is_read}
+use Rattle.bytecode_front.proofs.Slices.{views_drop, views_part, views_length}
 use Rattle.bytecode_builder.proofs.build.+build.Goals as goal
 
 some_left : (n : ℕ) (b : Bool) → b ≡ (n == 0) → b ≡ false → 0 < n

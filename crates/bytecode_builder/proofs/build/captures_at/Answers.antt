@@ -3,7 +3,7 @@ use Rattle.serde_json.specs.Find.{as_bool}
 use Rattle.serde_json.specs.View.{view}
 use Rattle.bytecode_front.specs.Front.{small_in, capture_by, with_more, captures_in}
 use Rattle.bytecode_front.specs.Views.{views}
-use Rattle.bytecode_front.specs.Captures.{captures_turn, captures_few, prepend, prepend_more, not_none}
+use Rattle.bytecode_front.proofs.Captures.{captures_turn, captures_few, prepend, prepend_more, not_none}
 use Rattle.bytecode_builder.proofs.build.captures_at.Goals as goal
 
 pub unreachable-requires : goal.unreachable-requires

@@ -1,7 +1,7 @@
 use Rattle.std.proofs.Common.{◌≡◌, ◌-◌}
 use Rattle.bytecode_front.specs.Front.{captures_in}
 use Rattle.bytecode_front.specs.Views.{views}
-use Rattle.bytecode_front.specs.Captures.{prepend}
+use Rattle.bytecode_front.proofs.Captures.{prepend}
 use Rattle.bytecode_builder.proofs.build.captures_at.Given as goal
 
 abbrev pub invariant-loop-i : goal.invariant-loop-i

@@ -9,9 +9,9 @@ use Rattle.bytecode_builder.specs.Marks.{op_marks, marks}
 use Rattle.bytecode_front.specs.Reading.{callable_size, read_ops}
 use Rattle.bytecode_builder.specs.Placed.{StopIs}
 use Rattle.bytecode_front.specs.Views.{views}
-use Rattle.bytecode_front.specs.Fronts.{front_found, front_opens}
+use Rattle.bytecode_front.proofs.Fronts.{front_found, front_opens}
 use Rattle.bytecode_builder.proofs.Scans.{Going, going_start, going_at, going_found, going_opens, going_end, going_fault, going_stop, simple_marks, callable_marks}
-use Rattle.bytecode_front.specs.Slices.{views_drop, views_part, views_length}
+use Rattle.bytecode_front.proofs.Slices.{views_drop, views_part, views_length}
 use Rattle.bytecode_builder.proofs.scan.+scan.Goals as goal
 
 some_left : (n : ℕ) (b : Bool) → b ≡ (n == 0) → b ≡ false → 0 < n

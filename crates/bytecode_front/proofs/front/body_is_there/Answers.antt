@@ -3,7 +3,7 @@ use Rattle.std.proofs.lemmas.Bool.Decides.{nat_tests}
 use Rattle.std.specs.Prelude.{nat_le, is_some}
 use Rattle.bytecode_front.specs.Front.{closure_in}
 use Rattle.bytecode_front.specs.Views.{views}
-use Rattle.bytecode_front.specs.Slices.{views_drop, views_length}
+use Rattle.bytecode_front.proofs.Slices.{views_drop, views_length}
 use Rattle.bytecode_front.proofs.front.body_is_there.Goals as goal
 
 pub returns-then-len-rest : goal.returns-then-len-rest

@@ -4,7 +4,7 @@ use Rattle.serde_json.specs.Find.{as_bool}
 use Rattle.serde_json.specs.View.{view}
 use Rattle.bytecode_front.specs.Front.{small_in, capture_by, with_more, captures_in}
 use Rattle.bytecode_front.specs.Views.{views}
-use Rattle.bytecode_front.specs.Captures.{captures_turn, captures_few, captures_end, none_from, more_some}
+use Rattle.bytecode_front.proofs.Captures.{captures_turn, captures_few, captures_end, none_from, more_some}
 use Rattle.bytecode_front.proofs.front.captures_are_there.Goals as goal
 
 pub returns-in_default : goal.returns-in_default

@@ -5,7 +5,7 @@ use Rattle.bytecode_builder.specs.Placed.{Answers}
 use Rattle.bytecode_json.specs.Text.{IsShort, items_list, behind_header, of_elements, of_array}
 use Rattle.bytecode_front.specs.Views.{views}
 use Rattle.bytecode_json.proofs.Decoded.{items_back}
-use Rattle.bytecode_front.specs.Slices.{views_length}
+use Rattle.bytecode_front.proofs.Slices.{views_length}
 use Rattle.bytecode_json.proofs.decoder.code_from.Goals as goal
 
 pub code_in-requires : goal.code_in-requires

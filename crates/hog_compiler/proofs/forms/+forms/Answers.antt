@@ -2,7 +2,7 @@ use Rattle.std.proofs.Common.{take, sym, ap, ap₂, ◌∙◌, arith, Some, None
 use Rattle.std.proofs.lemmas.Result.{on_ok_weaker}
 use Rattle.hog_ops.specs.Plain as o
 use Rattle.hog_ops.specs.Plain.{MoreOp, ◌⊕◌}
-use Rattle.hog_ops.specs.Join.{join_none}
+use Rattle.hog_ops.proofs.Join.{join_none}
 use Rattle.hog_tree.specs.Plain.{Assign}
 use Rattle.hog_tree.specs.View.{exp_of, exps_from, parts_from, pairs_from, body_of, stm_of, stms_from, option_exp_from, option_stms_from}
 use Rattle.hog_value.specs.Natives.{native_named}

@@ -2,7 +2,7 @@ use Rattle.std.proofs.Common.{ap, ap₂, ◌∙◌, arith}
 use Rattle.hog_ops.specs.Plain.{◌⊕◌}
 use Rattle.hog_ops.specs.Table.{span}
 use Rattle.hog_ops.specs.View.{ops_of, ops_of-append}
-use Rattle.hog_ops.specs.Join.{span-join}
+use Rattle.hog_ops.proofs.Join.{span-join}
 use Rattle.hog_compiler.proofs.draft.Draft.append.Goals as goal
 
 pub invariant_of-self-2 : goal.invariant_of-self-2

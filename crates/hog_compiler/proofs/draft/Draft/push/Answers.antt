@@ -2,7 +2,7 @@ use Rattle.std.proofs.Common.{[], ◌∷◌, ap, ◌∙◌, arith}
 use Rattle.hog_ops.specs.Plain.{◌⊕◌}
 use Rattle.hog_ops.specs.Table.{span}
 use Rattle.hog_ops.specs.View.{op_of, ops_of, ops_of-append}
-use Rattle.hog_ops.specs.Join.{span-join}
+use Rattle.hog_ops.proofs.Join.{span-join}
 use Rattle.hog_compiler.specs.Pieces.{one}
 use Rattle.hog_compiler.proofs.draft.Draft.push.Goals as goal
 

@@ -18,8 +18,8 @@ use Rattle.bytecode_front.specs.declared.stop.Why.{Why}
 use Rattle.bytecode_front.specs.declared.stop.Why.TheVariants.{Unknown, Outside, Bad}
 use Rattle.bytecode_front.specs.Front.{Front, Faulty, Found, Opens, whole_in, small_in, first_by, capture_by, with_more, captures_in, is_small, closure_in, found, count_in, jump_in, str_in, integer_in, call_in, with_captures, opened_by, opened, has, front_by, front_at, front_of}
 use Rattle.bytecode_front.specs.Reading.{callable_size}
-use Rattle.bytecode_front.specs.Operands.{elem_text, texts, elem_texts, whole_text, small_text, str_text, bool_text, and_then_some, map_some, Behind, found_is, plain_behind, count_behind, jump_behind, str_behind, integer_behind, call_behind}
-use Rattle.bytecode_front.specs.Numbered.{Numbered, plain_numbered, count_numbered, jump_numbered}
+use Rattle.bytecode_front.proofs.Operands.{elem_text, texts, elem_texts, whole_text, small_text, str_text, bool_text, and_then_some, map_some, Behind, found_is, plain_behind, count_behind, jump_behind, str_behind, integer_behind, call_behind}
+use Rattle.bytecode_front.proofs.Numbered.{Numbered, plain_numbered, count_numbered, jump_numbered}
 
 -- one of two fronts
 pick : {C : Type 0} (b : Bool) (x y f : Front) → (b ≡ true → x ≡ f → C) → (y ≡ f → C) → cond b x y ≡ f → C

@@ -6,7 +6,7 @@ use Rattle.hog_ops.specs.Table.{size}
 use Rattle.bytecode_front.specs.declared.stop.CodeStop.{CodeStop}
 use Rattle.bytecode_front.specs.Front.{Front, Faulty, Found, Opens, front_of}
 use Rattle.bytecode_front.specs.Reading.{before, holding, callable_size, read_front, read_by, read_ops}
-use Rattle.bytecode_front.specs.Fronts.{Taken, front_found, Opened, front_opens}
+use Rattle.bytecode_front.proofs.Fronts.{Taken, front_found, Opened, front_opens}
 
 -- the operation at the front has an element, and ends within n elements
 abbrev pub FrontFits : ℕ → Front → Type 0

@@ -11,8 +11,8 @@ use Rattle.hog_ops.specs.Valid.{op_allowed, allowed, op_height, height}
 use Rattle.bytecode_front.specs.declared.stop.CodeStop.{CodeStop}
 use Rattle.bytecode_front.specs.Front.{Front, Faulty, Found, Opens, front_of}
 use Rattle.bytecode_front.specs.Reading.{before, holding, callable_size, read_front, read_by, read_ops}
-use Rattle.bytecode_front.specs.Operands.{elem_text, texts, elem_texts}
-use Rattle.bytecode_front.specs.Fronts.{Taken, front_found, Opened, front_opens}
+use Rattle.bytecode_front.proofs.Operands.{elem_text, texts, elem_texts}
+use Rattle.bytecode_front.proofs.Fronts.{Taken, front_found, Opened, front_opens}
 
 -- Operations that were read from elements: their operands are allowed, their bodies have room, they take all the elements, and these spell as they do.
 pub record IsRead (room : ℕ) (ds : List Data) (ops : Ops) : Type 0 where

@@ -18,8 +18,8 @@ use Rattle.bytecode_front.specs.declared.stop.Why.{Why}
 use Rattle.bytecode_front.specs.declared.stop.Why.TheVariants.{Unknown, Outside, Bad}
 use Rattle.bytecode_front.specs.Front.{Front, Faulty, Found, Opens, whole_in, small_of, small_in, first_by, captures_in, is_small, closure_in, found, count_in, jump_in, str_in, integer_in, call_in, with_captures, opened_by, opened, has, front_by, front_at, front_of}
 use Rattle.bytecode_front.specs.Elements.{elem_data}
-use Rattle.bytecode_front.specs.Names.{named_name}
-use Rattle.bytecode_front.specs.Numbered.{Numbered, plain_numbered, count_numbered, jump_numbered}
+use Rattle.bytecode_front.proofs.Names.{named_name}
+use Rattle.bytecode_front.proofs.Numbered.{Numbered, plain_numbered, count_numbered, jump_numbered}
 
 -- the text of an element
 abbrev pub elem_text : Elem → List ℕ

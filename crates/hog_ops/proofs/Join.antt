@@ -7,7 +7,7 @@ use Rattle.hog_ops.specs.Plain.{Op, Ops, Callable, NoOp, MoreOp, ◌⊕◌}
 use Rattle.hog_ops.specs.Table.{Row, Alone, Counts, Leads, Calls, Spells, Gives, Holds, row, size, span}
 use Rattle.hog_ops.specs.Elements.{elements, op_elements}
 use Rattle.hog_ops.specs.Valid.{op_allowed, allowed, op_height, height, is_place, is_place_of, may_lead, row_leads, or_then, op_lost, lost_in, lost}
-use Rattle.hog_ops.specs.Lost.{or_then_none, lost_none}
+use Rattle.hog_ops.proofs.Lost.{or_then_none, lost_none}
 
 pub join_assoc : (os qs rs : Ops) → (os ⊕ qs) ⊕ rs ≡ os ⊕ (qs ⊕ rs)
 join_assoc NoOp qs rs = refl
