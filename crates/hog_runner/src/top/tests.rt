@@ -19,12 +19,12 @@ fn given(alloc: Global, words: &[&str]) -> Result<Vec<HogText>, Fail> {
 fn answer(
     alloc: Global,
     words: &[&str],
-    input: &[u8],
+    input: Vec<u8>,
     room: usize,
     failing_puts: &[u32],
 ) -> Result<(u8, MemSink), Fail> {
     let words = given(alloc, words)?;
-    let mut source = MemSource::new(Vec::from_slice(alloc, input)?, Vec::new(alloc));
+    let mut source = MemSource::new(input, Vec::new(alloc));
     let mut sink = MemSink::new(alloc, room, Vec::new(alloc))?;
     let keeper = MemKeeper::new(alloc, Vec::from_slice(alloc, failing_puts)?);
     let status = top_still(alloc, &words, &mut source, &mut sink, keeper).status;
@@ -33,7 +33,8 @@ fn answer(
 
 /// Whether a command answers an input with this status, and writes just this.
 fn writes(alloc: Global, word: &str, input: &str, status: u8, written: &str) -> Result<bool, Fail> {
-    let (answered, sink) = answer(alloc, &[word], input.as_bytes(), 4000, &[])?;
+    let bytes = Vec::from_slice(alloc, input.as_bytes())?;
+    let (answered, sink) = answer(alloc, &[word], bytes, 4000, &[])?;
     Ok(answered == status && sink.bytes() == written.as_bytes())
 }
 
@@ -348,7 +349,8 @@ fn words_and_bytes(rt: HostRuntime) -> Result<(), Fail> {
         (&["fmt"], b"'\xc3\xa9\xc3", 1, "refused: not utf8 at 3\n"),
     ];
     for (words, input, status, written) in rows {
-        let (answered, sink) = answer(rt.alloc(), words, input, 100, &[])?;
+        let bytes = Vec::from_slice(rt.alloc(), input)?;
+        let (answered, sink) = answer(rt.alloc(), words, bytes, 100, &[])?;
         assert_eq!(rt; answered, status, "of {words:?}");
         assert_eq!(rt; sink.bytes(), written.as_bytes(), "of {words:?}");
     }
@@ -408,7 +410,7 @@ fn nested(alloc: Global, pairs: usize) -> Result<Vec<u8>, Fail> {
 }
 
 #[test]
-fn height_and_length(rt: HostRuntime) -> Result<(), Fail> {
+fn heights(rt: HostRuntime) -> Result<(), Fail> {
     let alloc = rt.alloc();
     // The statement, the pairs and the number.
     for (pairs, status, written) in [
@@ -416,10 +418,16 @@ fn height_and_length(rt: HostRuntime) -> Result<(), Fail> {
         (99, 1, "refused: too nested at 106\n"),
         (101, 1, "refused: too nested at 106\n"),
     ] {
-        let (answered, sink) = answer(alloc, &["fmt"], &nested(alloc, pairs)?, 100, &[])?;
+        let (answered, sink) = answer(alloc, &["fmt"], nested(alloc, pairs)?, 100, &[])?;
         assert_eq!(rt; answered, status, "of {pairs} pairs");
         assert_eq!(rt; sink.bytes(), written.as_bytes());
     }
+    Ok(())
+}
+
+#[test]
+fn lengths(rt: HostRuntime) -> Result<(), Fail> {
+    let alloc = rt.alloc();
     for (length, status, written) in [
         (16_384, 0, ""),
         (16_385, 1, "refused: program too long\n"),
@@ -427,7 +435,7 @@ fn height_and_length(rt: HostRuntime) -> Result<(), Fail> {
         (16_777_217, 1, "refused: too large\n"),
     ] {
         let input = vec![in alloc; b' '; length]?;
-        let (answered, sink) = answer(alloc, &["fmt"], &input, 100, &[])?;
+        let (answered, sink) = answer(alloc, &["fmt"], input, 100, &[])?;
         assert_eq!(rt; answered, status, "of {length} bytes");
         assert_eq!(rt; sink.bytes(), written.as_bytes());
     }

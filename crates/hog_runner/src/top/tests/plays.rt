@@ -172,13 +172,8 @@ fn scripts(rt: HostRuntime) -> Result<(), Fail> {
 #[test]
 fn faults_of_keepers(rt: HostRuntime) -> Result<(), Fail> {
     for (script, failing_puts, lines) in KEPT {
-        let (status, sink) = answer(
-            rt.alloc(),
-            &["replay"],
-            script.as_bytes(),
-            1000,
-            failing_puts,
-        )?;
+        let bytes = Vec::from_slice(rt.alloc(), script.as_bytes())?;
+        let (status, sink) = answer(rt.alloc(), &["replay"], bytes, 1000, failing_puts)?;
         assert_eq!(rt; status, 0);
         assert_eq!(rt; sink.bytes(), lines.as_bytes(), "of {failing_puts:?}");
     }
@@ -227,9 +222,14 @@ fn composed(alloc: Global, first: &str, steps: &[(&str, u32)]) -> Result<String,
     Ok(script)
 }
 
-/// Whether what `replay` writes of a script ends with these lines.
-fn ends_with(alloc: Global, script: &str, end: &str) -> Result<bool, Fail> {
-    let (status, sink) = answer(alloc, &["replay"], script.as_bytes(), 2_000_000, &[])?;
+/// Whether what `replay` writes of a script of a first step, and then steps so many times, ends with these lines.
+fn ends_with(alloc: Global, first: &str, steps: &[(&str, u32)], end: &str) -> Result<bool, Fail> {
+    let words = given(alloc, &["replay"])?;
+    let script = composed(alloc, first, steps)?;
+    let bytes = Vec::from_slice(alloc, script.as_str().as_bytes())?;
+    let mut source = MemSource::new(bytes, Vec::new(alloc));
+    let mut sink = MemSink::new(alloc, 2_000_000, Vec::new(alloc))?;
+    let status = top_still(alloc, &words, &mut source, &mut sink, NoKeeper).status;
     let start = sink.bytes().len().saturating_sub(end.len());
     Ok(status == 0 && &sink.bytes()[start..] == end.as_bytes())
 }
@@ -237,17 +237,12 @@ fn ends_with(alloc: Global, script: &str, end: &str) -> Result<bool, Fail> {
 #[test]
 fn long_scripts(rt: HostRuntime) -> Result<(), Fail> {
     let alloc = rt.alloc();
-    let rows: [(&str, &[(&str, u32)], &str); 5] = [
+    let rows: [(&str, &[(&str, u32)], &str); 3] = [
         // The machine is saved after each operation, and loaded before the next.
         (
             THROWN,
             &[(ONE, 8), (ANSWERED, 1), (ONE, 11)],
             "work ended 19\nflush ok\njob 0 completed\nrequest \"https://h/\" \"null\"\nresult \"501\"\nentries queued 1 taken 20 beat 0 ran 19 replied 1 swept 0\n",
-        ),
-        (
-            LONG,
-            &[(FORTY, 20_251)],
-            "work ended 810008\nflush ok\njob 0 completed\nresult \"90000\"\nentries queued 1 taken 20251 beat 0 ran 20251 replied 0 swept 0\n",
         ),
         // The steps behind the end find nothing to take.
         (
@@ -260,16 +255,26 @@ fn long_scripts(rt: HostRuntime) -> Result<(), Fail> {
             &[(ROUND, 101)],
             "too many fetches\nentries queued 1 taken 201 beat 0 ran 101 replied 100 swept 0\n",
         ),
-        // A queue has 16,384 jobs at most.
-        (
-            QUEUED,
-            &[(ONE_MORE, 16_384)],
-            "job 16383 available hog\nentries queued 16384 taken 0 beat 0 ran 0 replied 0 swept 0\n",
-        ),
     ];
     for (first, steps, end) in rows {
-        let script = composed(alloc, first, steps)?;
-        assert!(rt; ends_with(alloc, script.as_str(), end)?, "of {end}");
+        assert!(rt; ends_with(alloc, first, steps, end)?, "of {end}");
     }
+    Ok(())
+}
+
+#[test]
+fn a_long_loop_goes_on_by_slices(rt: HostRuntime) -> Result<(), Fail> {
+    let end =
+        "work ended 810008\nflush ok\njob 0 completed\nresult \"90000\"\nentries queued 1 taken 20251 beat 0 ran 20251 replied 0 swept 0\n";
+    assert!(rt; ends_with(rt.alloc(), LONG, &[(FORTY, 20_251)], end)?);
+    Ok(())
+}
+
+/// A queue has 16,384 jobs at most.
+#[test]
+fn most_jobs(rt: HostRuntime) -> Result<(), Fail> {
+    let end =
+        "job 16383 available hog\nentries queued 16384 taken 0 beat 0 ran 0 replied 0 swept 0\n";
+    assert!(rt; ends_with(rt.alloc(), QUEUED, &[(ONE_MORE, 16_384)], end)?);
     Ok(())
 }
