@@ -431,7 +431,6 @@ fn lengths(rt: HostRuntime) -> Result<(), Fail> {
     for (length, status, written) in [
         (16_384, 0, ""),
         (16_385, 1, "refused: program too long\n"),
-        (16_777_216, 1, "refused: program too long\n"),
         (16_777_217, 1, "refused: too large\n"),
     ] {
         let input = vec![in alloc; b' '; length]?;
