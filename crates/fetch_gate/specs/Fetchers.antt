@@ -1,5 +1,5 @@
 -- What fetchers tell, and what contracts see of those that answer from a list.
-use Rattle.std.specs.Prelude.{ℕ, ◌≡◌, ◌+◌, ◌-◌, ◌^◌, min, List, Option, Some}
+use Rattle.std.specs.Prelude.{ℕ, ◌≡◌, List, Option, Some}
 use Rattle.cyclotron_jobs.specs.declared.input.JobInput.{JobInput}
 use Rattle.cyclotron_jobs.specs.declared.input.Reply.{Reply}
 use Rattle.cyclotron_jobs.specs.declared.input.Answers.{Answers}
@@ -18,14 +18,6 @@ TellsSame before after = (input : JobInput) (n : ℕ) → after input n ≡ befo
 abbrev pub reply_of : Answers → ℕ → Reply → Reply
 reply_of Free n free = free
 reply_of (Listed replies) n free = listed_reply replies n
-
--- the number of the next call; numbers stand still at the greatest u32
-abbrev pub next_call : ℕ → ℕ
-next_call calls = min (calls + 1) (2 ^ 32 - 1)
-
--- the count after one more fault; it stands still at the greatest u64
-abbrev pub next_fault : ℕ → ℕ
-next_fault faults = min (faults + 1) (2 ^ 64 - 1)
 
 -- the reply to a free input, how often each fetch fails first, and the count of faults
 pub record ListOf : Type 0 where

@@ -49,11 +49,11 @@ impl FailingFetcher {
 
 impl Fetcher for FailingFetcher {
     ghost use Rattle.std.specs.Prelude.{ℕ, ◌≡◌, ◌≢◌, ◌≤◌, ◌↔◌, Option, Some, IfOk, Contains};
-    ghost use Rattle.hog_outside.specs.Faults.{Rose};
+    ghost use Rattle.hog_outside.specs.Faults.{Rose, next_call, next_fault};
     ghost use Rattle.cyclotron_jobs.specs.declared.input.JobInput.{JobInput};
     ghost use Rattle.cyclotron_jobs.specs.declared.input.Reply.{Reply};
     ghost use Rattle.cyclotron_jobs.specs.Replies.{AllowsReply};
-    ghost use Rattle.fetch_gate.specs.Fetchers.{reply_of, next_call, next_fault};
+    ghost use Rattle.fetch_gate.specs.Fetchers.{reply_of};
 
     ghost faults = { λ f. f.faults };
 

@@ -47,11 +47,11 @@ impl ListFetcher {
 
 impl Fetcher for ListFetcher {
     ghost use Rattle.std.specs.Prelude.{ℕ, ◌≡◌, ◌≤◌, ◌<◌, ◌↔◌, Option, Some, IfOk};
-    ghost use Rattle.hog_outside.specs.Faults.{Rose};
+    ghost use Rattle.hog_outside.specs.Faults.{Rose, next_fault};
     ghost use Rattle.cyclotron_jobs.specs.declared.input.JobInput.{JobInput};
     ghost use Rattle.cyclotron_jobs.specs.declared.input.Reply.{Reply};
     ghost use Rattle.cyclotron_jobs.specs.Replies.{AllowsReply};
-    ghost use Rattle.fetch_gate.specs.Fetchers.{reply_of, next_fault};
+    ghost use Rattle.fetch_gate.specs.Fetchers.{reply_of};
 
     ghost faults = { λ f. f.faults };
 

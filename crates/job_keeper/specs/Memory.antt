@@ -1,5 +1,5 @@
 -- What contracts see of a keeper in memory.
-use Rattle.std.specs.Prelude.{ℕ, ◌≡◌, ◌≢◌, ◌==◌, ◌+◌, ◌<◌, min, length, slice_index_or, List, Option, find}
+use Rattle.std.specs.Prelude.{ℕ, ◌≡◌, ◌≢◌, ◌==◌, ◌<◌, length, slice_index_or, List, Option, find}
 use Rattle.cyclotron_jobs.specs.declared.row.Row.{Row}
 
 -- the rows that it holds, the calls that are to fail, how many calls there were, and its count of faults
@@ -8,10 +8,6 @@ pub record MemoryOf : Type 0 where
   pub fails : List ℕ
   pub calls : ℕ
   pub faults : ℕ
-
--- the number of the next call; numbers stand still at the greatest u32
-abbrev pub next_call : ℕ → ℕ
-next_call calls = min (calls + 1) 4294967295
 
 -- the row that is held of a job
 abbrev pub row_of : List Row → ℕ → Option Row

@@ -5,6 +5,7 @@ ghost use Rattle.job_keeper.specs.Memory.{HasNone, IsFirstOf};
 
 use crate::keeper::{KeepStop, Keeper};
 use cyclotron_jobs::row::Row;
+use hog_value::items::Numbers;
 use std::alloc::Global;
 use std::marker::Model;
 
@@ -12,7 +13,7 @@ use std::marker::Model;
 #[derive(Drop)]
 pub struct MemKeeper {
     rows: Vec<Row>,
-    fails: Vec<u32>,
+    fails: Numbers,
     calls: u32,
     faults: u64,
 }
@@ -24,7 +25,7 @@ impl Model for MemKeeper {
 
     ghost view = { λ k. record {
       rows = k.rows.items;
-      fails = k.fails.items;
+      fails = k.fails;
       calls = k.calls;
       faults = k.faults;
     } };
@@ -34,8 +35,8 @@ impl MemKeeper {
     ghost use Rattle.std.specs.Prelude.{◌≡◌, []};
 
     /// `fails` lists the calls that are to fail, counted from 1. Takes no memory.
-    pub fn new(alloc: Global, fails: Vec<u32>) -> MemKeeper
-        ensures { result ≡ record { rows = []; fails = fails.items; calls = 0; faults = 0 } }
+    pub fn new(alloc: Global, fails: Numbers) -> MemKeeper
+        ensures { result ≡ record { rows = []; fails = fails; calls = 0; faults = 0 } }
     {
         MemKeeper {
             rows: Vec::new(alloc),
@@ -47,10 +48,10 @@ impl MemKeeper {
 }
 
 impl Keeper for MemKeeper {
-    ghost use Rattle.std.specs.Prelude.{◌≡◌, ◌≤◌, ◌+◌, ◌↔◌, min, ℕ, Bool, true, false, IsOk, OnOk, OnErr, Contains};
-    ghost use Rattle.hog_outside.specs.Faults.{Rose};
+    ghost use Rattle.std.specs.Prelude.{◌≡◌, ◌≢◌, ◌≤◌, ◌↔◌, ℕ, Bool, true, false, IsOk, OnOk, OnErr, Contains};
+    ghost use Rattle.hog_outside.specs.Faults.{Rose, next_call, next_fault};
     ghost use Rattle.job_keeper.specs.Held.{PutsRow, SameRows};
-    ghost use Rattle.job_keeper.specs.Memory.{row_of, next_call};
+    ghost use Rattle.job_keeper.specs.Memory.{row_of};
 
     ghost faults = { λ k. k.faults };
 
@@ -66,13 +67,15 @@ impl Keeper for MemKeeper {
         ensures failed { result ≡ Err KeepStop.Failed → Rose self.old.faults self.new.faults }
         ensures count { self.old.faults ≤ self.new.faults }
 
-        // It fails at the calls of its list.
+        // It fails at the calls of its list, and its count rises then alone.
         ensures chosen { (result ≡ Err KeepStop.Failed) ↔ Contains self.old.fails (next_call self.old.calls) }
+        ensures rises { result ≡ Err KeepStop.Failed → self.new.faults ≡ next_fault self.old.faults }
+        ensures still { result ≢ Err KeepStop.Failed → self.new.faults ≡ self.old.faults }
         ensures calls { self.new.calls ≡ next_call self.old.calls }
         ensures fails { self.new.fails ≡ self.old.fails }
     {
         self.calls = self.calls.saturating_add(1);
-        if self.fails.contains(&self.calls) {
+        if self.fails.items().contains(&self.calls) {
             self.faults = self.faults.saturating_add(1);
             return Err(KeepStop::Failed);
         }

@@ -1,5 +1,6 @@
 use super::*;
 use hog_outside::{Failed, MemSink, MemSource};
+use hog_value::items::Numbers;
 use job_keeper::{MemKeeper, NoKeeper};
 use std::test::Fail;
 
@@ -26,7 +27,8 @@ fn answer(
     let words = given(alloc, words)?;
     let mut source = MemSource::new(input, Vec::new(alloc));
     let mut sink = MemSink::new(alloc, room, Vec::new(alloc))?;
-    let keeper = MemKeeper::new(alloc, Vec::from_slice(alloc, failing_puts)?);
+    let failing_puts = Numbers::new(Vec::from_slice(alloc, failing_puts)?);
+    let keeper = MemKeeper::new(alloc, failing_puts);
     let status = top_still(alloc, &words, &mut source, &mut sink, keeper).status;
     Ok((status, sink))
 }
