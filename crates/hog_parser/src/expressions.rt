@@ -12,6 +12,7 @@ ghost use Rattle.hog_terms.specs.Marks.{after_close, after_close_bracket, after_
 
 use crate::found::{Found, Stop};
 use crate::parameters::names;
+use crate::readers::Readers;
 use crate::statements::braced;
 use hog_grammar::Tokens;
 use hog_terms::cursor::next;
@@ -28,25 +29,24 @@ use hog_tree::tree::{
 };
 use std::alloc::Global;
 
-/// An expression of this level and of height `room` at most. `room` is 100 at most.
-#[cycle(reading)]
-#[tactic(auto, using(crate::proofs::Unfold::expression_one, crate::proofs::Unfold::expression_none))]
-pub fn expression(
+/// An expression of this level and of height `room` at most, its parts read by `again`.
+#[tactic(auto, using(crate::proofs::Unfold::expression_one))]
+pub fn leveled<R: Readers>(
+    again: &R,
     alloc: Global,
     tokens: &Tokens,
     room: u32,
     level: u32,
     at: usize,
 ) -> Result<Found<Expr>, Stop>
-    requires { room ≤ 100 }
+    requires some { 0 < room }
+    requires few { room ≤ 100 }
+    requires deep { room ≤ R.levels again.now + 1 }
     ensures low { IfOk result (λ f. f.height ≤ room) }
     ensures gives { Gives exp_of tokens.now result ((readers room).expression level (left tokens.now at)) }
 {
-    if room == 0 {
-        return Err(Stop::TooNested(at));
-    }
-    let begun = operand(alloc, tokens, room - 1, level, at)?;
-    operators(alloc, tokens, room, level, begun)
+    let begun = operand(again, alloc, tokens, room - 1, level, at)?;
+    operators(again, alloc, tokens, room, level, begun)
 }
 
 /// A tree of height 1. Takes no memory.
@@ -61,16 +61,17 @@ fn leaf(tree: Expr, at: usize) -> Found<Expr>
 }
 
 /// An expression without operators after it.
-#[cycle(reading)]
 #[tactic(auto, unfolding(crate::specs::Read::first))]
-fn operand(
+fn operand<R: Readers>(
+    again: &R,
     alloc: Global,
     tokens: &Tokens,
     room: u32,
     level: u32,
     at: usize,
 ) -> Result<Found<Expr>, Stop>
-    requires { room < 100 }
+    requires few { room < 100 }
+    requires deep { room ≤ R.levels again.now }
     ensures low { IfOk result (λ f. f.height ≤ room + 1) }
     ensures gives { Gives exp_of tokens.now result (first (readers room) level (left tokens.now at)) }
 {
@@ -85,28 +86,28 @@ fn operand(
         Term::Null => Ok(leaf(Expr::Null, after)),
         Term::Word(bytes) => {
             let name = name_of(alloc, tokens, at, bytes)?;
-            named(alloc, tokens, room, level, name, after)
+            named(again, alloc, tokens, room, level, name, after)
         }
-        Term::TemplateStart => template(alloc, tokens, room, after),
-        Term::OpenBracket => array(alloc, tokens, room, after),
-        Term::OpenBrace => dictionary(alloc, tokens, room, after),
+        Term::TemplateStart => template(again, alloc, tokens, room, after),
+        Term::OpenBracket => array(again, alloc, tokens, room, after),
+        Term::OpenBrace => dictionary(again, alloc, tokens, room, after),
         Term::Minus => {
             if 9 < level {
                 return Err(Stop::Syntax(at));
             }
-            minus(alloc, tokens, room, after)
+            minus(again, alloc, tokens, room, after)
         }
         Term::Not => {
             if 4 < level {
                 return Err(Stop::Syntax(at));
             }
-            negation(alloc, tokens, room, after)
+            negation(again, alloc, tokens, room, after)
         }
         Term::Open => {
             if begins_arrow(tokens, after) {
-                long_lambda(alloc, tokens, room, level, after)
+                long_lambda(again, alloc, tokens, room, level, after)
             } else {
-                parenthesized(alloc, tokens, room, after)
+                parenthesized(again, alloc, tokens, room, after)
             }
         }
         _ => Err(Stop::Syntax(at)),
@@ -114,8 +115,8 @@ fn operand(
 }
 
 /// A name, or the one parameter of a function without parentheses round it.
-#[cycle(reading)]
-fn named(
+fn named<R: Readers>(
+    again: &R,
     alloc: Global,
     tokens: &Tokens,
     room: u32,
@@ -123,24 +124,31 @@ fn named(
     name: Named,
     at: usize,
 ) -> Result<Found<Expr>, Stop>
-    requires { room < 100 }
+    requires few { room < 100 }
+    requires deep { room ≤ R.levels again.now }
     ensures low { IfOk result (λ f. f.height ≤ room + 1) }
     ensures gives { Gives exp_of tokens.now result (either_way (after_arrow (left tokens.now at)) (short_arrow (readers room) level (word_of name)) (Ok (got (Name (word_of name)) 1 (left tokens.now at)))) }
 {
     match arrow(tokens, at) {
-        Some(body) => short_lambda(alloc, tokens, room, level, name, body),
+        Some(body) => short_lambda(again, alloc, tokens, room, level, name, body),
         None => Ok(leaf(Expr::Name(name), at)),
     }
 }
 
 /// An expression after a minus; its own level is 9. `at` is the index after the minus.
-#[cycle(reading)]
-fn minus(alloc: Global, tokens: &Tokens, room: u32, at: usize) -> Result<Found<Expr>, Stop>
-    requires { room < 100 }
+fn minus<R: Readers>(
+    again: &R,
+    alloc: Global,
+    tokens: &Tokens,
+    room: u32,
+    at: usize,
+) -> Result<Found<Expr>, Stop>
+    requires few { room < 100 }
+    requires deep { room ≤ R.levels again.now }
     ensures low { IfOk result (λ f. f.height ≤ room + 1) }
     ensures gives { Gives exp_of tokens.now result (followed ((readers room).expression 9 (left tokens.now at)) (grown Neg)) }
 {
-    let e = expression(alloc, tokens, room, 9, at)?;
+    let e = again.expression(alloc, tokens, room, 9, at)?;
     Ok(Found {
         tree: Expr::Neg(Box::new(alloc, e.tree)?),
         height: e.height + 1,
@@ -149,13 +157,19 @@ fn minus(alloc: Global, tokens: &Tokens, room: u32, at: usize) -> Result<Found<E
 }
 
 /// An expression after `not`; its own level is 4. `at` is the index after the word.
-#[cycle(reading)]
-fn negation(alloc: Global, tokens: &Tokens, room: u32, at: usize) -> Result<Found<Expr>, Stop>
-    requires { room < 100 }
+fn negation<R: Readers>(
+    again: &R,
+    alloc: Global,
+    tokens: &Tokens,
+    room: u32,
+    at: usize,
+) -> Result<Found<Expr>, Stop>
+    requires few { room < 100 }
+    requires deep { room ≤ R.levels again.now }
     ensures low { IfOk result (λ f. f.height ≤ room + 1) }
     ensures gives { Gives exp_of tokens.now result (followed ((readers room).expression 4 (left tokens.now at)) (grown Not)) }
 {
-    let e = expression(alloc, tokens, room, 4, at)?;
+    let e = again.expression(alloc, tokens, room, 4, at)?;
     Ok(Found {
         tree: Expr::Not(Box::new(alloc, e.tree)?),
         height: e.height + 1,
@@ -164,13 +178,19 @@ fn negation(alloc: Global, tokens: &Tokens, room: u32, at: usize) -> Result<Foun
 }
 
 /// An expression and the parenthesis that closes it, which counts for the height.
-#[cycle(reading)]
-fn parenthesized(alloc: Global, tokens: &Tokens, room: u32, at: usize) -> Result<Found<Expr>, Stop>
-    requires { room < 100 }
+fn parenthesized<R: Readers>(
+    again: &R,
+    alloc: Global,
+    tokens: &Tokens,
+    room: u32,
+    at: usize,
+) -> Result<Found<Expr>, Stop>
+    requires few { room < 100 }
+    requires deep { room ≤ R.levels again.now }
     ensures low { IfOk result (λ f. f.height ≤ room + 1) }
     ensures gives { Gives exp_of tokens.now result (followed ((readers room).expression 1 (left tokens.now at)) closed) }
 {
-    let e = expression(alloc, tokens, room, 1, at)?;
+    let e = again.expression(alloc, tokens, room, 1, at)?;
     match close(tokens, e.at) {
         Some(at) => Ok(Found {
             tree: e.tree,
@@ -182,14 +202,20 @@ fn parenthesized(alloc: Global, tokens: &Tokens, room: u32, at: usize) -> Result
 }
 
 /// An array after its bracket.
-#[cycle(reading)]
 #[tactic(auto, using(crate::proofs::Unfold::array_of))]
-fn array(alloc: Global, tokens: &Tokens, room: u32, at: usize) -> Result<Found<Expr>, Stop>
-    requires { room < 100 }
+fn array<R: Readers>(
+    again: &R,
+    alloc: Global,
+    tokens: &Tokens,
+    room: u32,
+    at: usize,
+) -> Result<Found<Expr>, Stop>
+    requires few { room < 100 }
+    requires deep { room ≤ R.levels again.now }
     ensures low { IfOk result (λ f. f.height ≤ room + 1) }
     ensures gives { Gives exp_of tokens.now result (followed (listing ((readers room).expression 1) true after_close_bracket (left tokens.now at)) (grown (λ es. Array (exps es)))) }
 {
-    let items = expressions(alloc, tokens, room, Closer::Bracket, at)?;
+    let items = expressions(again, alloc, tokens, room, Closer::Bracket, at)?;
     Ok(Found {
         tree: Expr::Array(items.tree),
         height: items.height + 1,
@@ -198,14 +224,20 @@ fn array(alloc: Global, tokens: &Tokens, room: u32, at: usize) -> Result<Found<E
 }
 
 /// A dictionary after its brace.
-#[cycle(reading)]
 #[tactic(auto, using(crate::proofs::Unfold::dict_of))]
-fn dictionary(alloc: Global, tokens: &Tokens, room: u32, at: usize) -> Result<Found<Expr>, Stop>
-    requires { room < 100 }
+fn dictionary<R: Readers>(
+    again: &R,
+    alloc: Global,
+    tokens: &Tokens,
+    room: u32,
+    at: usize,
+) -> Result<Found<Expr>, Stop>
+    requires few { room < 100 }
+    requires deep { room ≤ R.levels again.now }
     ensures low { IfOk result (λ f. f.height ≤ room + 1) }
     ensures gives { Gives exp_of tokens.now result (followed (listing (entry ((readers room).expression 1)) true after_close_brace (left tokens.now at)) (grown (λ ds. Dict (pairs ds)))) }
 {
-    let items = entries(alloc, tokens, room, at)?;
+    let items = entries(again, alloc, tokens, room, at)?;
     Ok(Found {
         tree: Expr::Dict(items.tree),
         height: items.height + 1,
@@ -214,8 +246,8 @@ fn dictionary(alloc: Global, tokens: &Tokens, room: u32, at: usize) -> Result<Fo
 }
 
 /// Goes on from `begun` with operators of this level and tighter.
-#[cycle(reading)]
-fn operators(
+fn operators<R: Readers>(
+    again: &R,
     alloc: Global,
     tokens: &Tokens,
     room: u32,
@@ -224,6 +256,7 @@ fn operators(
 ) -> Result<Found<Expr>, Stop>
     requires some { 0 < room }
     requires few { room ≤ 100 }
+    requires deep { room ≤ R.levels again.now + 1 }
     requires low { begun.height ≤ room }
     ensures low { IfOk result (λ f. f.height ≤ room) }
     ensures gives { Gives exp_of tokens.now result (climb (readers (room - 1)) room room level (got (exp_of begun.tree) begun.height (left tokens.now begun.at))) }
@@ -233,21 +266,22 @@ fn operators(
         if begun.height >= room {
             return Err(Stop::TooNested(begun.at));
         }
-        begun = operator(alloc, tokens, room - 1, begun)?;
+        begun = operator(again, alloc, tokens, room - 1, begun)?;
     }
     Ok(begun)
 }
 
 /// What goes on an expression: an operator and its right operand, or a postfix form.
-#[cycle(reading)]
 #[tactic(auto, unfolding(crate::specs::Read::step))]
-fn operator(
+fn operator<R: Readers>(
+    again: &R,
     alloc: Global,
     tokens: &Tokens,
     room: u32,
     before: Found<Expr>,
 ) -> Result<Found<Expr>, Stop>
     requires few { room < 100 }
+    requires deep { room ≤ R.levels again.now }
     requires low { before.height ≤ room }
     ensures low { IfOk result (λ f. f.height ≤ room + 1) }
     ensures taller { IfOk result (λ f. before.height < f.height) }
@@ -255,24 +289,24 @@ fn operator(
 {
     let at = before.at;
     if let Some((op, after)) = infix_at(tokens, at) {
-        return infix(alloc, tokens, room, op, before, after);
+        return infix(again, alloc, tokens, room, op, before, after);
     }
     let Some((term, after)) = next(tokens, at) else {
         return Err(Stop::Syntax(at));
     };
     match term {
-        Term::Coalesce => coalesce(alloc, tokens, room, before, after),
+        Term::Coalesce => coalesce(again, alloc, tokens, room, before, after),
         Term::Dot => member(alloc, tokens, before, after),
         Term::NullishDot => nullish_member(alloc, tokens, before, after),
-        Term::OpenBracket => index(alloc, tokens, room, before, after),
-        Term::Open => call(alloc, tokens, room, before, after),
+        Term::OpenBracket => index(again, alloc, tokens, room, before, after),
+        Term::Open => call(again, alloc, tokens, room, before, after),
         _ => Err(Stop::Syntax(at)),
     }
 }
 
 /// The right operand of `op`, from `at` on.
-#[cycle(reading)]
-fn infix(
+fn infix<R: Readers>(
+    again: &R,
     alloc: Global,
     tokens: &Tokens,
     room: u32,
@@ -281,12 +315,13 @@ fn infix(
     at: usize,
 ) -> Result<Found<Expr>, Stop>
     requires few { room < 100 }
+    requires deep { room ≤ R.levels again.now }
     requires low { before.height ≤ room }
     ensures low { IfOk result (λ f. f.height ≤ room + 1) }
     ensures taller { IfOk result (λ f. before.height < f.height) }
     ensures gives { Gives exp_of tokens.now result (binary (readers room) (exp_of before.tree) before.height (op, left tokens.now at)) }
 {
-    let right = expression(alloc, tokens, room, level_of(op) + 1, at)?;
+    let right = again.expression(alloc, tokens, room, level_of(op) + 1, at)?;
     let tree = Expr::Binary(
         op,
         Box::new(alloc, before.tree)?,
@@ -300,8 +335,8 @@ fn infix(
 }
 
 /// The right operand of `??`, from `at` on.
-#[cycle(reading)]
-fn coalesce(
+fn coalesce<R: Readers>(
+    again: &R,
     alloc: Global,
     tokens: &Tokens,
     room: u32,
@@ -309,12 +344,13 @@ fn coalesce(
     at: usize,
 ) -> Result<Found<Expr>, Stop>
     requires few { room < 100 }
+    requires deep { room ≤ R.levels again.now }
     requires low { before.height ≤ room }
     ensures low { IfOk result (λ f. f.height ≤ room + 1) }
     ensures taller { IfOk result (λ f. before.height < f.height) }
     ensures gives { Gives exp_of tokens.now result (followed ((readers room).expression 6 (left tokens.now at)) (joined Coalesce (exp_of before.tree) before.height)) }
 {
-    let right = expression(alloc, tokens, room, 6, at)?;
+    let right = again.expression(alloc, tokens, room, 6, at)?;
     let tree = Expr::Coalesce(Box::new(alloc, before.tree)?, Box::new(alloc, right.tree)?);
     Ok(Found {
         tree,
@@ -366,8 +402,8 @@ fn nullish_member(
 }
 
 /// The index and its closing bracket, from `at` on.
-#[cycle(reading)]
-fn index(
+fn index<R: Readers>(
+    again: &R,
     alloc: Global,
     tokens: &Tokens,
     room: u32,
@@ -375,12 +411,13 @@ fn index(
     at: usize,
 ) -> Result<Found<Expr>, Stop>
     requires few { room < 100 }
+    requires deep { room ≤ R.levels again.now }
     requires low { before.height ≤ room }
     ensures low { IfOk result (λ f. f.height ≤ room + 1) }
     ensures taller { IfOk result (λ f. before.height < f.height) }
     ensures gives { Gives exp_of tokens.now result (followed ((readers room).expression 1 (left tokens.now at)) (indexed (exp_of before.tree) before.height)) }
 {
-    let inner = expression(alloc, tokens, room, 1, at)?;
+    let inner = again.expression(alloc, tokens, room, 1, at)?;
     let Some(at) = close_bracket(tokens, inner.at) else {
         return Err(Stop::Syntax(inner.at));
     };
@@ -393,9 +430,9 @@ fn index(
 }
 
 /// The arguments of a call after their parenthesis.
-#[cycle(reading)]
 #[tactic(auto, using(crate::proofs::Unfold::call_of))]
-fn call(
+fn call<R: Readers>(
+    again: &R,
     alloc: Global,
     tokens: &Tokens,
     room: u32,
@@ -403,12 +440,13 @@ fn call(
     at: usize,
 ) -> Result<Found<Expr>, Stop>
     requires few { room < 100 }
+    requires deep { room ≤ R.levels again.now }
     requires low { before.height ≤ room }
     ensures low { IfOk result (λ f. f.height ≤ room + 1) }
     ensures taller { IfOk result (λ f. before.height < f.height) }
     ensures gives { Gives exp_of tokens.now result (followed (listing ((readers room).expression 1) false after_close (left tokens.now at)) (called (exp_of before.tree) before.height)) }
 {
-    let arguments = expressions(alloc, tokens, room, Closer::Parenthesis, at)?;
+    let arguments = expressions(again, alloc, tokens, room, Closer::Parenthesis, at)?;
     Ok(Found {
         tree: Expr::Call(Box::new(alloc, before.tree)?, arguments.tree),
         height: before.height.max(arguments.height) + 1,
@@ -417,15 +455,16 @@ fn call(
 }
 
 /// Expressions with commas between them, and the mark that closes them. Of arguments no comma stands last.
-#[cycle(reading)]
-fn expressions(
+fn expressions<R: Readers>(
+    again: &R,
     alloc: Global,
     tokens: &Tokens,
     room: u32,
     closer: Closer,
     at: usize,
 ) -> Result<Found<Exprs>, Stop>
-    requires { room < 100 }
+    requires few { room < 100 }
+    requires deep { room ≤ R.levels again.now }
     ensures low { IfOk result (λ f. f.height ≤ room) }
     ensures gives { Gives list_of tokens.now result (listing ((readers room).expression 1) (comma_of closer) (shut_of closer) (left tokens.now at)) }
 {
@@ -440,7 +479,7 @@ fn expressions(
     let mut height = 0;
     let mut begin = at;
     'items: for _ in 0..remaining(tokens, at) {
-        let item = expression(alloc, tokens, room, 1, begin)?;
+        let item = again.expression(alloc, tokens, room, 1, begin)?;
         list.push(item.tree)?;
         height = height.max(item.height);
         match following(tokens, closer, item.at) {
@@ -459,17 +498,23 @@ fn expressions(
 }
 
 /// A key and its value.
-#[cycle(reading)]
-fn item(alloc: Global, tokens: &Tokens, room: u32, at: usize) -> Result<Found<DictItem>, Stop>
-    requires { room < 100 }
+fn item<R: Readers>(
+    again: &R,
+    alloc: Global,
+    tokens: &Tokens,
+    room: u32,
+    at: usize,
+) -> Result<Found<DictItem>, Stop>
+    requires few { room < 100 }
+    requires deep { room ≤ R.levels again.now }
     ensures low { IfOk result (λ f. f.height ≤ room) }
     ensures gives { Gives entry_of tokens.now result (entry ((readers room).expression 1) (left tokens.now at)) }
 {
-    let key = expression(alloc, tokens, room, 1, at)?;
+    let key = again.expression(alloc, tokens, room, 1, at)?;
     let Some(after) = colon(tokens, key.at) else {
         return Err(Stop::Syntax(key.at));
     };
-    let value = expression(alloc, tokens, room, 1, after)?;
+    let value = again.expression(alloc, tokens, room, 1, after)?;
     Ok(Found {
         tree: DictItem {
             key: key.tree,
@@ -481,9 +526,15 @@ fn item(alloc: Global, tokens: &Tokens, room: u32, at: usize) -> Result<Found<Di
 }
 
 /// Keys with values, and the brace that closes them.
-#[cycle(reading)]
-fn entries(alloc: Global, tokens: &Tokens, room: u32, at: usize) -> Result<Found<DictItems>, Stop>
-    requires { room < 100 }
+fn entries<R: Readers>(
+    again: &R,
+    alloc: Global,
+    tokens: &Tokens,
+    room: u32,
+    at: usize,
+) -> Result<Found<DictItems>, Stop>
+    requires few { room < 100 }
+    requires deep { room ≤ R.levels again.now }
     ensures low { IfOk result (λ f. f.height ≤ room) }
     ensures gives { Gives entries_of tokens.now result (listing (entry ((readers room).expression 1)) true after_close_brace (left tokens.now at)) }
 {
@@ -498,7 +549,7 @@ fn entries(alloc: Global, tokens: &Tokens, room: u32, at: usize) -> Result<Found
     let mut height = 0;
     let mut begin = at;
     'items: for _ in 0..remaining(tokens, at) {
-        let found = item(alloc, tokens, room, begin)?;
+        let found = item(again, alloc, tokens, room, begin)?;
         list.push(found.tree)?;
         height = height.max(found.height);
         match following(tokens, Closer::Brace, found.at) {
@@ -517,10 +568,16 @@ fn entries(alloc: Global, tokens: &Tokens, room: u32, at: usize) -> Result<Found
 }
 
 /// The parts of a template after its beginning.
-#[cycle(reading)]
 #[tactic(auto, using(hog_tree::proofs::Rows::template_is))]
-fn template(alloc: Global, tokens: &Tokens, room: u32, at: usize) -> Result<Found<Expr>, Stop>
-    requires { room < 100 }
+fn template<R: Readers>(
+    again: &R,
+    alloc: Global,
+    tokens: &Tokens,
+    room: u32,
+    at: usize,
+) -> Result<Found<Expr>, Stop>
+    requires few { room < 100 }
+    requires deep { room ≤ R.levels again.now }
     ensures low { IfOk result (λ f. f.height ≤ room + 1) }
     ensures gives { Gives exp_of tokens.now result (followed (parts ((readers room).expression 1) (length (left tokens.now at)) (left tokens.now at)) (grown Template)) }
 {
@@ -534,7 +591,7 @@ fn template(alloc: Global, tokens: &Tokens, room: u32, at: usize) -> Result<Foun
                 begin = after;
             }
             PartMark::Hole(after) => {
-                let part = in_hole(alloc, tokens, room, after)?;
+                let part = in_hole(again, alloc, tokens, room, after)?;
                 list.push(Part::Hole(part.tree))?;
                 height = height.max(part.height);
                 begin = part.at;
@@ -553,13 +610,19 @@ fn template(alloc: Global, tokens: &Tokens, room: u32, at: usize) -> Result<Foun
 }
 
 /// The expression of a template's hole, and the hole's end.
-#[cycle(reading)]
-fn in_hole(alloc: Global, tokens: &Tokens, room: u32, at: usize) -> Result<Found<Expr>, Stop>
-    requires { room < 100 }
+fn in_hole<R: Readers>(
+    again: &R,
+    alloc: Global,
+    tokens: &Tokens,
+    room: u32,
+    at: usize,
+) -> Result<Found<Expr>, Stop>
+    requires few { room < 100 }
+    requires deep { room ≤ R.levels again.now }
     ensures low { IfOk result (λ f. f.height ≤ room) }
     ensures gives { Gives exp_of tokens.now result (followed ((readers room).expression 1 (left tokens.now at)) holed) }
 {
-    let e = expression(alloc, tokens, room, 1, at)?;
+    let e = again.expression(alloc, tokens, room, 1, at)?;
     match hole(tokens, e.at) {
         Some(at) => Ok(Found {
             tree: e.tree,
@@ -571,20 +634,21 @@ fn in_hole(alloc: Global, tokens: &Tokens, room: u32, at: usize) -> Result<Found
 }
 
 /// What stands after an arrow.
-#[cycle(reading)]
 #[tactic(auto, using(hog_tree::proofs::Rows::body_is), unfolding(crate::specs::Read::body))]
-fn arrow_body(
+fn arrow_body<R: Readers>(
+    again: &R,
     alloc: Global,
     tokens: &Tokens,
     room: u32,
     at: usize,
 ) -> Result<Found<ArrowBody>, Stop>
-    requires { room < 100 }
+    requires few { room < 100 }
+    requires deep { room ≤ R.levels again.now }
     ensures low { IfOk result (λ f. f.height ≤ room) }
     ensures gives { Gives body_of tokens.now result (body (readers room) (left tokens.now at)) }
 {
     if let Some(after) = open_brace(tokens, at) {
-        let block = braced(alloc, tokens, room, after)?;
+        let block = braced(again, alloc, tokens, room, after)?;
         if lead_level(tokens, block.at) >= 1 {
             return Err(Stop::Syntax(block.at));
         }
@@ -594,7 +658,7 @@ fn arrow_body(
             at: block.at,
         });
     }
-    let e = expression(alloc, tokens, room, 1, at)?;
+    let e = again.expression(alloc, tokens, room, 1, at)?;
     Ok(Found {
         tree: ArrowBody::One(Box::new(alloc, e.tree)?),
         height: e.height,
@@ -603,8 +667,8 @@ fn arrow_body(
 }
 
 /// A function without a name: its parameters are read, and its body begins at `at`.
-#[cycle(reading)]
-fn lambda(
+fn lambda<R: Readers>(
+    again: &R,
     alloc: Global,
     tokens: &Tokens,
     room: u32,
@@ -612,6 +676,7 @@ fn lambda(
     at: usize,
 ) -> Result<Found<Expr>, Stop>
     requires few { room < 100 }
+    requires deep { room ≤ R.levels again.now }
     requires low { parameters.height ≤ room }
     ensures low { IfOk result (λ f. f.height ≤ room + 1) }
     ensures gives { Gives exp_of tokens.now result (followed (body (readers room) (left tokens.now at)) (arrowed (got (words_of parameters.tree) parameters.height (left tokens.now parameters.at)))) }
@@ -621,7 +686,7 @@ fn lambda(
         height,
         at: _,
     } = parameters;
-    let body = arrow_body(alloc, tokens, room, at)?;
+    let body = arrow_body(again, alloc, tokens, room, at)?;
     Ok(Found {
         tree: Expr::Lambda(names, body.tree),
         height: height.max(body.height) + 1,
@@ -630,9 +695,9 @@ fn lambda(
 }
 
 /// A function with one parameter without parentheses; `at` is the index after its arrow.
-#[cycle(reading)]
 #[tactic(auto, unfolding(crate::specs::Read::short_arrow))]
-fn short_lambda(
+fn short_lambda<R: Readers>(
+    again: &R,
     alloc: Global,
     tokens: &Tokens,
     room: u32,
@@ -640,7 +705,8 @@ fn short_lambda(
     name: Named,
     at: usize,
 ) -> Result<Found<Expr>, Stop>
-    requires { room < 100 }
+    requires few { room < 100 }
+    requires deep { room ≤ R.levels again.now }
     ensures low { IfOk result (λ f. f.height ≤ room + 1) }
     ensures gives { Gives exp_of tokens.now result (short_arrow (readers room) level (word_of name) (left tokens.now at)) }
 {
@@ -654,20 +720,21 @@ fn short_lambda(
         height: 0,
         at,
     };
-    lambda(alloc, tokens, room, parameters, at)
+    lambda(again, alloc, tokens, room, parameters, at)
 }
 
 /// A function with its parameters in parentheses, after the first of them.
-#[cycle(reading)]
 #[tactic(auto, unfolding(crate::specs::Read::arrow))]
-fn long_lambda(
+fn long_lambda<R: Readers>(
+    again: &R,
     alloc: Global,
     tokens: &Tokens,
     room: u32,
     level: u32,
     at: usize,
 ) -> Result<Found<Expr>, Stop>
-    requires { room < 100 }
+    requires few { room < 100 }
+    requires deep { room ≤ R.levels again.now }
     ensures low { IfOk result (λ f. f.height ≤ room + 1) }
     ensures gives { Gives exp_of tokens.now result (arrow (readers room) level (left tokens.now at)) }
 {
@@ -677,7 +744,7 @@ fn long_lambda(
     let parameters = names(alloc, tokens, at)?;
     let end = parameters.at;
     match arrow(tokens, end) {
-        Some(at) => lambda(alloc, tokens, room, parameters, at),
+        Some(at) => lambda(again, alloc, tokens, room, parameters, at),
         None => Err(Stop::Syntax(end)),
     }
 }

@@ -10,6 +10,7 @@ mod found;
 pub mod laws;
 mod parameters;
 mod parsing;
+mod readers;
 mod statements;
 
 pub use parsing::{ParseStop, parse};

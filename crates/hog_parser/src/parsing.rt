@@ -12,6 +12,7 @@ ghost use Rattle.hog_parser.specs.Before.{tokens_before};
 ghost use Rattle.hog_parser.specs.Gives.{Gives, stmts_of};
 
 use crate::found::{Found, Stop};
+use crate::readers::Room;
 use crate::statements::several;
 use hog_grammar::Tokens;
 use hog_terms::marks::close_brace;
@@ -46,7 +47,8 @@ impl From<AllocError> for ParseStop {
 fn whole(alloc: Global, tokens: &Tokens) -> Result<Found<Stmts>, Stop>
     ensures { Gives stmts_of tokens.now result (program 100 (left tokens.now 0)) }
 {
-    let stmts = several(alloc, tokens, MOST_HEIGHT, 0)?;
+    let levels = Room::of(alloc, MOST_HEIGHT)?;
+    let stmts = several(&levels, alloc, tokens, MOST_HEIGHT, 0)?;
     match close_brace(tokens, stmts.at) {
         Some(_) => Err(Stop::Syntax(stmts.at)),
         None => Ok(stmts),

@@ -9,9 +9,9 @@ ghost use Rattle.hog_terms.specs.View.{left};
 ghost use Rattle.hog_parser.specs.Gives.{Gives, followed, stmts_of};
 ghost use Rattle.hog_terms.specs.Marks.{after_open, after_semi, after_close, after_function, after_catch, after_bound, is_target};
 
-use crate::expressions::expression;
 use crate::found::{Found, Stop};
 use crate::parameters::names;
+use crate::readers::Readers;
 use hog_grammar::Tokens;
 use hog_terms::cursor::next;
 use hog_terms::marks::{
@@ -23,25 +23,17 @@ use hog_terms::words::{Bound, bound_names, catch_name, function_name, name};
 use hog_tree::tree::{Expr, FunTree, Stmt, Stmts};
 use std::alloc::Global;
 
-/// A statement of height `room` at most that doesn't begin with `;`. `room` is 100 at most.
-#[cycle(reading)]
-#[tactic(auto, using(crate::proofs::Unfold::statement_one, crate::proofs::Unfold::statement_none))]
-pub fn statement(alloc: Global, tokens: &Tokens, room: u32, at: usize) -> Result<Found<Stmt>, Stop>
-    requires { room ≤ 100 }
-    ensures low { IfOk result (λ f. f.height ≤ room) }
-    ensures gives { Gives stm_of tokens.now result ((readers room).statement (left tokens.now at)) }
-{
-    if room == 0 {
-        return Err(Stop::TooNested(at));
-    }
-    begun(alloc, tokens, room - 1, at)
-}
-
 /// The start of a `for`, of height `room` at most.
-#[cycle(reading)]
 #[tactic(auto, using(crate::proofs::Unfold::start_one, crate::proofs::Unfold::start_none), unfolding(crate::specs::ReadStatements::start_of))]
-fn start(alloc: Global, tokens: &Tokens, room: u32, at: usize) -> Result<Found<Stmt>, Stop>
-    requires { room ≤ 100 }
+fn start<R: Readers>(
+    again: &R,
+    alloc: Global,
+    tokens: &Tokens,
+    room: u32,
+    at: usize,
+) -> Result<Found<Stmt>, Stop>
+    requires few { room ≤ 100 }
+    requires deep { room ≤ R.levels again.now }
     ensures low { IfOk result (λ f. f.height ≤ room) }
     ensures gives { Gives stm_of tokens.now result ((readers room).start (left tokens.now at)) }
 {
@@ -49,23 +41,29 @@ fn start(alloc: Global, tokens: &Tokens, room: u32, at: usize) -> Result<Found<S
         return Err(Stop::TooNested(at));
     }
     match let_word(tokens, at) {
-        Some(after) => declaration(alloc, tokens, room - 1, after),
-        None => plain(alloc, tokens, room - 1, at),
+        Some(after) => declaration(again, alloc, tokens, room - 1, after),
+        None => plain(again, alloc, tokens, room - 1, at),
     }
 }
 
 /// The step of a `for`, of height `room` at most.
-#[cycle(reading)]
 #[tactic(auto, using(crate::proofs::Unfold::step_one, crate::proofs::Unfold::step_none))]
-fn step(alloc: Global, tokens: &Tokens, room: u32, at: usize) -> Result<Found<Stmt>, Stop>
-    requires { room ≤ 100 }
+fn step<R: Readers>(
+    again: &R,
+    alloc: Global,
+    tokens: &Tokens,
+    room: u32,
+    at: usize,
+) -> Result<Found<Stmt>, Stop>
+    requires few { room ≤ 100 }
+    requires deep { room ≤ R.levels again.now }
     ensures low { IfOk result (λ f. f.height ≤ room) }
     ensures gives { Gives stm_of tokens.now result ((readers room).step (left tokens.now at)) }
 {
     if room == 0 {
         return Err(Stop::TooNested(at));
     }
-    plain(alloc, tokens, room - 1, at)
+    plain(again, alloc, tokens, room - 1, at)
 }
 
 /// The `;` after a statement, where it isn't left out.
@@ -87,39 +85,51 @@ fn ended(tokens: &Tokens, stmt: Found<Stmt>) -> Result<Found<Stmt>, Stop>
 }
 
 /// A statement, seen by its first token.
-#[cycle(reading)]
 #[tactic(auto, unfolding(crate::specs::ReadStatements::begun))]
-fn begun(alloc: Global, tokens: &Tokens, room: u32, at: usize) -> Result<Found<Stmt>, Stop>
-    requires { room < 100 }
+pub fn begun<R: Readers>(
+    again: &R,
+    alloc: Global,
+    tokens: &Tokens,
+    room: u32,
+    at: usize,
+) -> Result<Found<Stmt>, Stop>
+    requires few { room < 100 }
+    requires deep { room ≤ R.levels again.now }
     ensures low { IfOk result (λ f. f.height ≤ room + 1) }
     ensures gives { Gives stm_of tokens.now result (begun (readers room) (left tokens.now at)) }
 {
     let Some((term, after)) = next(tokens, at) else {
-        return ended(tokens, plain(alloc, tokens, room, at)?);
+        return ended(tokens, plain(again, alloc, tokens, room, at)?);
     };
     match term {
-        Term::Let => ended(tokens, declaration(alloc, tokens, room, after)?),
-        Term::Return => return_of(alloc, tokens, room, after),
-        Term::Throw => throw(alloc, tokens, room, after),
-        Term::If => if_else(alloc, tokens, room, after),
-        Term::While => while_loop(alloc, tokens, room, after),
-        Term::For => for_loop(alloc, tokens, room, after),
-        Term::Fun => function(alloc, tokens, room, after),
-        Term::Try => try_catch(alloc, tokens, room, after),
-        Term::OpenBrace => block_statement(alloc, tokens, room, after),
-        _ => ended(tokens, plain(alloc, tokens, room, at)?),
+        Term::Let => ended(tokens, declaration(again, alloc, tokens, room, after)?),
+        Term::Return => return_of(again, alloc, tokens, room, after),
+        Term::Throw => throw(again, alloc, tokens, room, after),
+        Term::If => if_else(again, alloc, tokens, room, after),
+        Term::While => while_loop(again, alloc, tokens, room, after),
+        Term::For => for_loop(again, alloc, tokens, room, after),
+        Term::Fun => function(again, alloc, tokens, room, after),
+        Term::Try => try_catch(again, alloc, tokens, room, after),
+        Term::OpenBrace => block_statement(again, alloc, tokens, room, after),
+        _ => ended(tokens, plain(again, alloc, tokens, room, at)?),
     }
 }
 
 /// An assignment or an expression.
-#[cycle(reading)]
 #[tactic(auto, unfolding(crate::specs::ReadStatements::plain))]
-fn plain(alloc: Global, tokens: &Tokens, room: u32, at: usize) -> Result<Found<Stmt>, Stop>
-    requires { room < 100 }
+fn plain<R: Readers>(
+    again: &R,
+    alloc: Global,
+    tokens: &Tokens,
+    room: u32,
+    at: usize,
+) -> Result<Found<Stmt>, Stop>
+    requires few { room < 100 }
+    requires deep { room ≤ R.levels again.now }
     ensures low { IfOk result (λ f. f.height ≤ room + 1) }
     ensures gives { Gives stm_of tokens.now result (plain (readers room) (left tokens.now at)) }
 {
-    let target = expression(alloc, tokens, room, 1, at)?;
+    let target = again.expression(alloc, tokens, room, 1, at)?;
     let Some(after) = assign(tokens, target.at) else {
         return Ok(Found {
             tree: Stmt::Do(target.tree),
@@ -130,7 +140,7 @@ fn plain(alloc: Global, tokens: &Tokens, room: u32, at: usize) -> Result<Found<S
     if !is_target(&target.tree) {
         return Err(Stop::Syntax(target.at));
     }
-    let value = expression(alloc, tokens, room, 1, after)?;
+    let value = again.expression(alloc, tokens, room, 1, after)?;
     Ok(Found {
         tree: Stmt::Assign(target.tree, value.tree),
         height: target.height.max(value.height) + 1,
@@ -153,9 +163,15 @@ fn is_target(e: &Expr) -> bool
 }
 
 /// A declaration after its `let`, without its `;`.
-#[cycle(reading)]
-fn declaration(alloc: Global, tokens: &Tokens, room: u32, at: usize) -> Result<Found<Stmt>, Stop>
-    requires { room < 100 }
+fn declaration<R: Readers>(
+    again: &R,
+    alloc: Global,
+    tokens: &Tokens,
+    room: u32,
+    at: usize,
+) -> Result<Found<Stmt>, Stop>
+    requires few { room < 100 }
+    requires deep { room ≤ R.levels again.now }
     ensures low { IfOk result (λ f. f.height ≤ room + 1) }
     ensures gives { Gives stm_of tokens.now result (declared (readers room) (left tokens.now at)) }
 {
@@ -169,7 +185,7 @@ fn declaration(alloc: Global, tokens: &Tokens, room: u32, at: usize) -> Result<F
             at: after,
         });
     };
-    let value = expression(alloc, tokens, room, 1, begin)?;
+    let value = again.expression(alloc, tokens, room, 1, begin)?;
     Ok(Found {
         tree: Stmt::Let(name, Some(value.tree)),
         height: value.height + 1,
@@ -178,9 +194,15 @@ fn declaration(alloc: Global, tokens: &Tokens, room: u32, at: usize) -> Result<F
 }
 
 /// A `return` after its word.
-#[cycle(reading)]
-fn return_of(alloc: Global, tokens: &Tokens, room: u32, at: usize) -> Result<Found<Stmt>, Stop>
-    requires { room < 100 }
+fn return_of<R: Readers>(
+    again: &R,
+    alloc: Global,
+    tokens: &Tokens,
+    room: u32,
+    at: usize,
+) -> Result<Found<Stmt>, Stop>
+    requires few { room < 100 }
+    requires deep { room ≤ R.levels again.now }
     ensures low { IfOk result (λ f. f.height ≤ room + 1) }
     ensures gives { Gives stm_of tokens.now result (returned (readers room) (left tokens.now at)) }
 {
@@ -198,7 +220,7 @@ fn return_of(alloc: Global, tokens: &Tokens, room: u32, at: usize) -> Result<Fou
             at,
         });
     }
-    let value = expression(alloc, tokens, room, 1, at)?;
+    let value = again.expression(alloc, tokens, room, 1, at)?;
     let stmt = Found {
         tree: Stmt::Return(Some(value.tree)),
         height: value.height + 1,
@@ -208,13 +230,19 @@ fn return_of(alloc: Global, tokens: &Tokens, room: u32, at: usize) -> Result<Fou
 }
 
 /// A `throw` after its word.
-#[cycle(reading)]
-fn throw(alloc: Global, tokens: &Tokens, room: u32, at: usize) -> Result<Found<Stmt>, Stop>
-    requires { room < 100 }
+fn throw<R: Readers>(
+    again: &R,
+    alloc: Global,
+    tokens: &Tokens,
+    room: u32,
+    at: usize,
+) -> Result<Found<Stmt>, Stop>
+    requires few { room < 100 }
+    requires deep { room ≤ R.levels again.now }
     ensures low { IfOk result (λ f. f.height ≤ room + 1) }
     ensures gives { Gives stm_of tokens.now result (followed (followed ((readers room).expression 1 (left tokens.now at)) (grown Throw)) ended) }
 {
-    let value = expression(alloc, tokens, room, 1, at)?;
+    let value = again.expression(alloc, tokens, room, 1, at)?;
     let stmt = Found {
         tree: Stmt::Throw(value.tree),
         height: value.height + 1,
@@ -224,13 +252,19 @@ fn throw(alloc: Global, tokens: &Tokens, room: u32, at: usize) -> Result<Found<S
 }
 
 /// An expression and the parenthesis after it, which doesn't count for the height.
-#[cycle(reading)]
-fn to_parenthesis(alloc: Global, tokens: &Tokens, room: u32, at: usize) -> Result<Found<Expr>, Stop>
-    requires { room < 100 }
+fn to_parenthesis<R: Readers>(
+    again: &R,
+    alloc: Global,
+    tokens: &Tokens,
+    room: u32,
+    at: usize,
+) -> Result<Found<Expr>, Stop>
+    requires few { room < 100 }
+    requires deep { room ≤ R.levels again.now }
     ensures low { IfOk result (λ f. f.height ≤ room) }
     ensures gives { Gives exp_of tokens.now result (followed ((readers room).expression 1 (left tokens.now at)) in_parentheses) }
 {
-    let e = expression(alloc, tokens, room, 1, at)?;
+    let e = again.expression(alloc, tokens, room, 1, at)?;
     match close(tokens, e.at) {
         Some(at) => Ok(Found {
             tree: e.tree,
@@ -242,29 +276,41 @@ fn to_parenthesis(alloc: Global, tokens: &Tokens, room: u32, at: usize) -> Resul
 }
 
 /// An expression in parentheses, which don't count for the height.
-#[cycle(reading)]
-fn condition(alloc: Global, tokens: &Tokens, room: u32, at: usize) -> Result<Found<Expr>, Stop>
-    requires { room < 100 }
+fn condition<R: Readers>(
+    again: &R,
+    alloc: Global,
+    tokens: &Tokens,
+    room: u32,
+    at: usize,
+) -> Result<Found<Expr>, Stop>
+    requires few { room < 100 }
+    requires deep { room ≤ R.levels again.now }
     ensures low { IfOk result (λ f. f.height ≤ room) }
     ensures gives { Gives exp_of tokens.now result (condition (readers room) (left tokens.now at)) }
 {
     match open(tokens, at) {
-        Some(after) => to_parenthesis(alloc, tokens, room, after),
+        Some(after) => to_parenthesis(again, alloc, tokens, room, after),
         None => Err(Stop::Syntax(at)),
     }
 }
 
 /// An `if` after its word, with its `else`.
-#[cycle(reading)]
 #[tactic(auto, using(hog_tree::proofs::Rows::if_is))]
-fn if_else(alloc: Global, tokens: &Tokens, room: u32, at: usize) -> Result<Found<Stmt>, Stop>
-    requires { room < 100 }
+fn if_else<R: Readers>(
+    again: &R,
+    alloc: Global,
+    tokens: &Tokens,
+    room: u32,
+    at: usize,
+) -> Result<Found<Stmt>, Stop>
+    requires few { room < 100 }
+    requires deep { room ≤ R.levels again.now }
     ensures low { IfOk result (λ f. f.height ≤ room + 1) }
     ensures gives { Gives stm_of tokens.now result (followed (condition (readers room) (left tokens.now at)) (λ c. followed (governed (readers room) c.rest) (λ b. followed (otherwise (readers room) b.rest) (conditional c b)))) }
 {
-    let test = condition(alloc, tokens, room, at)?;
-    let body = governed(alloc, tokens, room, test.at)?;
-    let other = otherwise(alloc, tokens, room, body.at)?;
+    let test = condition(again, alloc, tokens, room, at)?;
+    let body = governed(again, alloc, tokens, room, test.at)?;
+    let other = otherwise(again, alloc, tokens, room, body.at)?;
     Ok(Found {
         tree: Stmt::If(test.tree, body.tree, other.tree),
         height: test.height.max(body.height.max(other.height)) + 1,
@@ -273,15 +319,21 @@ fn if_else(alloc: Global, tokens: &Tokens, room: u32, at: usize) -> Result<Found
 }
 
 /// A `while` after its word.
-#[cycle(reading)]
 #[tactic(auto, using(hog_tree::proofs::Rows::while_is))]
-fn while_loop(alloc: Global, tokens: &Tokens, room: u32, at: usize) -> Result<Found<Stmt>, Stop>
-    requires { room < 100 }
+fn while_loop<R: Readers>(
+    again: &R,
+    alloc: Global,
+    tokens: &Tokens,
+    room: u32,
+    at: usize,
+) -> Result<Found<Stmt>, Stop>
+    requires few { room < 100 }
+    requires deep { room ≤ R.levels again.now }
     ensures low { IfOk result (λ f. f.height ≤ room + 1) }
     ensures gives { Gives stm_of tokens.now result (followed (condition (readers room) (left tokens.now at)) (λ c. followed (governed (readers room) c.rest) (looped c))) }
 {
-    let test = condition(alloc, tokens, room, at)?;
-    let body = governed(alloc, tokens, room, test.at)?;
+    let test = condition(again, alloc, tokens, room, at)?;
+    let body = governed(again, alloc, tokens, room, test.at)?;
     Ok(Found {
         tree: Stmt::While(test.tree, body.tree),
         height: test.height.max(body.height) + 1,
@@ -290,9 +342,15 @@ fn while_loop(alloc: Global, tokens: &Tokens, room: u32, at: usize) -> Result<Fo
 }
 
 /// A `for` after its word.
-#[cycle(reading)]
-fn for_loop(alloc: Global, tokens: &Tokens, room: u32, at: usize) -> Result<Found<Stmt>, Stop>
-    requires { room < 100 }
+fn for_loop<R: Readers>(
+    again: &R,
+    alloc: Global,
+    tokens: &Tokens,
+    room: u32,
+    at: usize,
+) -> Result<Found<Stmt>, Stop>
+    requires few { room < 100 }
+    requires deep { room ≤ R.levels again.now }
     ensures low { IfOk result (λ f. f.height ≤ room + 1) }
     ensures gives { Gives stm_of tokens.now result (wants (after_open (left tokens.now at)) (λ us. either_way (after_bound us) (over_each (readers room)) (run_through (readers room) us))) }
 {
@@ -300,27 +358,28 @@ fn for_loop(alloc: Global, tokens: &Tokens, room: u32, at: usize) -> Result<Foun
         return Err(Stop::Syntax(at));
     };
     match bound_names(alloc, tokens, begin)? {
-        Some((names, after)) => for_each(alloc, tokens, room, names, after),
-        None => for_steps(alloc, tokens, room, begin),
+        Some((names, after)) => for_each(again, alloc, tokens, room, names, after),
+        None => for_steps(again, alloc, tokens, room, begin),
     }
 }
 
 /// A `for .. in` after its `in`.
-#[cycle(reading)]
 #[tactic(auto, using(hog_tree::proofs::Rows::for_in_is))]
-fn for_each(
+fn for_each<R: Readers>(
+    again: &R,
     alloc: Global,
     tokens: &Tokens,
     room: u32,
     names: Bound,
     at: usize,
 ) -> Result<Found<Stmt>, Stop>
-    requires { room < 100 }
+    requires few { room < 100 }
+    requires deep { room ≤ R.levels again.now }
     ensures low { IfOk result (λ f. f.height ≤ room + 1) }
     ensures gives { Gives stm_of tokens.now result (over_each (readers room) ((option_word_of names.key, word_of names.value), left tokens.now at)) }
 {
-    let items = to_parenthesis(alloc, tokens, room, at)?;
-    let body = governed(alloc, tokens, room, items.at)?;
+    let items = to_parenthesis(again, alloc, tokens, room, at)?;
+    let body = governed(again, alloc, tokens, room, items.at)?;
     Ok(Found {
         tree: Stmt::ForIn(names.key, names.value, items.tree, body.tree),
         height: items.height.max(body.height) + 1,
@@ -329,17 +388,23 @@ fn for_each(
 }
 
 /// A `for` with a start, a condition and a step, after its parenthesis.
-#[cycle(reading)]
 #[tactic(auto, using(hog_tree::proofs::Rows::for_is), unfolding(crate::specs::ReadStatements::run_through))]
-fn for_steps(alloc: Global, tokens: &Tokens, room: u32, at: usize) -> Result<Found<Stmt>, Stop>
-    requires { room < 100 }
+fn for_steps<R: Readers>(
+    again: &R,
+    alloc: Global,
+    tokens: &Tokens,
+    room: u32,
+    at: usize,
+) -> Result<Found<Stmt>, Stop>
+    requires few { room < 100 }
+    requires deep { room ≤ R.levels again.now }
     ensures low { IfOk result (λ f. f.height ≤ room + 1) }
     ensures gives { Gives stm_of tokens.now result (run_through (readers room) (left tokens.now at)) }
 {
-    let first = optional_start(alloc, tokens, room, at)?;
-    let test = optional_condition(alloc, tokens, room, first.at)?;
-    let last = optional_step(alloc, tokens, room, test.at)?;
-    let body = governed(alloc, tokens, room, last.at)?;
+    let first = optional_start(again, alloc, tokens, room, at)?;
+    let test = optional_condition(again, alloc, tokens, room, first.at)?;
+    let last = optional_step(again, alloc, tokens, room, test.at)?;
+    let body = governed(again, alloc, tokens, room, last.at)?;
     let head = first.height.max(test.height.max(last.height));
     Ok(Found {
         tree: Stmt::For(first.tree, test.tree, last.tree, body.tree),
@@ -349,14 +414,15 @@ fn for_steps(alloc: Global, tokens: &Tokens, room: u32, at: usize) -> Result<Fou
 }
 
 /// The start of a `for`, which may be left out, and its `;`.
-#[cycle(reading)]
-fn optional_start(
+fn optional_start<R: Readers>(
+    again: &R,
     alloc: Global,
     tokens: &Tokens,
     room: u32,
     at: usize,
 ) -> Result<Found<Option<Box<Stmt>>>, Stop>
-    requires { room < 100 }
+    requires few { room < 100 }
+    requires deep { room ≤ R.levels again.now }
     ensures low { IfOk result (λ f. f.height ≤ room) }
     ensures gives { Gives option_stm_from tokens.now result (optional NoneStm SomeStm after_semi (readers room).start (left tokens.now at)) }
 {
@@ -367,7 +433,7 @@ fn optional_start(
             at,
         });
     }
-    let stmt = start(alloc, tokens, room, at)?;
+    let stmt = start(again, alloc, tokens, room, at)?;
     match semi(tokens, stmt.at) {
         Some(at) => Ok(Found {
             tree: Some(Box::new(alloc, stmt.tree)?),
@@ -379,14 +445,15 @@ fn optional_start(
 }
 
 /// The condition of a `for`, which may be left out, and its `;`.
-#[cycle(reading)]
-fn optional_condition(
+fn optional_condition<R: Readers>(
+    again: &R,
     alloc: Global,
     tokens: &Tokens,
     room: u32,
     at: usize,
 ) -> Result<Found<Option<Expr>>, Stop>
-    requires { room < 100 }
+    requires few { room < 100 }
+    requires deep { room ≤ R.levels again.now }
     ensures low { IfOk result (λ f. f.height ≤ room) }
     ensures gives { Gives option_exp_from tokens.now result (optional NoneExp SomeExp after_semi ((readers room).expression 1) (left tokens.now at)) }
 {
@@ -397,7 +464,7 @@ fn optional_condition(
             at,
         });
     }
-    let e = expression(alloc, tokens, room, 1, at)?;
+    let e = again.expression(alloc, tokens, room, 1, at)?;
     match semi(tokens, e.at) {
         Some(at) => Ok(Found {
             tree: Some(e.tree),
@@ -409,14 +476,15 @@ fn optional_condition(
 }
 
 /// The step of a `for`, which may be left out, and the parenthesis after it.
-#[cycle(reading)]
-fn optional_step(
+fn optional_step<R: Readers>(
+    again: &R,
     alloc: Global,
     tokens: &Tokens,
     room: u32,
     at: usize,
 ) -> Result<Found<Option<Box<Stmt>>>, Stop>
-    requires { room < 100 }
+    requires few { room < 100 }
+    requires deep { room ≤ R.levels again.now }
     ensures low { IfOk result (λ f. f.height ≤ room) }
     ensures gives { Gives option_stm_from tokens.now result (optional NoneStm SomeStm after_close (readers room).step (left tokens.now at)) }
 {
@@ -427,7 +495,7 @@ fn optional_step(
             at,
         });
     }
-    let stmt = step(alloc, tokens, room, at)?;
+    let stmt = step(again, alloc, tokens, room, at)?;
     match close(tokens, stmt.at) {
         Some(at) => Ok(Found {
             tree: Some(Box::new(alloc, stmt.tree)?),
@@ -439,10 +507,16 @@ fn optional_step(
 }
 
 /// A function with a name, after `fun`.
-#[cycle(reading)]
 #[tactic(auto, using(hog_tree::proofs::Rows::fun_is))]
-fn function(alloc: Global, tokens: &Tokens, room: u32, at: usize) -> Result<Found<Stmt>, Stop>
-    requires { room < 100 }
+fn function<R: Readers>(
+    again: &R,
+    alloc: Global,
+    tokens: &Tokens,
+    room: u32,
+    at: usize,
+) -> Result<Found<Stmt>, Stop>
+    requires few { room < 100 }
+    requires deep { room ≤ R.levels again.now }
     ensures low { IfOk result (λ f. f.height ≤ room + 1) }
     ensures gives { Gives stm_of tokens.now result (wants (after_function (left tokens.now at)) (with_parameters (readers room))) }
 {
@@ -450,7 +524,7 @@ fn function(alloc: Global, tokens: &Tokens, room: u32, at: usize) -> Result<Foun
         return Err(Stop::Syntax(at));
     };
     let params = names(alloc, tokens, after)?;
-    let body = block(alloc, tokens, room, params.at)?;
+    let body = block(again, alloc, tokens, room, params.at)?;
     let height = params.height.max(body.height) + 1;
     let tree = Stmt::Fun(FunTree {
         name,
@@ -465,18 +539,24 @@ fn function(alloc: Global, tokens: &Tokens, room: u32, at: usize) -> Result<Foun
 }
 
 /// A `try` after its word, with its `catch`.
-#[cycle(reading)]
 #[tactic(auto, using(hog_tree::proofs::Rows::try_is))]
-fn try_catch(alloc: Global, tokens: &Tokens, room: u32, at: usize) -> Result<Found<Stmt>, Stop>
-    requires { room < 100 }
+fn try_catch<R: Readers>(
+    again: &R,
+    alloc: Global,
+    tokens: &Tokens,
+    room: u32,
+    at: usize,
+) -> Result<Found<Stmt>, Stop>
+    requires few { room < 100 }
+    requires deep { room ≤ R.levels again.now }
     ensures low { IfOk result (λ f. f.height ≤ room + 1) }
     ensures gives { Gives stm_of tokens.now result (followed (block (readers room) (left tokens.now at)) (λ b. wants (after_catch b.rest) (λ p. followed (block (readers room) p.1) (tried b p.0)))) }
 {
-    let body = block(alloc, tokens, room, at)?;
+    let body = block(again, alloc, tokens, room, at)?;
     let Some((name, after)) = catch_name(alloc, tokens, body.at)? else {
         return Err(Stop::Syntax(body.at));
     };
-    let caught = block(alloc, tokens, room, after)?;
+    let caught = block(again, alloc, tokens, room, after)?;
     Ok(Found {
         tree: Stmt::Try(body.tree, name, caught.tree),
         height: body.height.max(caught.height) + 1,
@@ -485,19 +565,20 @@ fn try_catch(alloc: Global, tokens: &Tokens, room: u32, at: usize) -> Result<Fou
 }
 
 /// A block as a statement, after its brace.
-#[cycle(reading)]
 #[tactic(auto, using(hog_tree::proofs::Rows::block_is))]
-fn block_statement(
+fn block_statement<R: Readers>(
+    again: &R,
     alloc: Global,
     tokens: &Tokens,
     room: u32,
     at: usize,
 ) -> Result<Found<Stmt>, Stop>
-    requires { room < 100 }
+    requires few { room < 100 }
+    requires deep { room ≤ R.levels again.now }
     ensures low { IfOk result (λ f. f.height ≤ room + 1) }
     ensures gives { Gives stm_of tokens.now result (followed (braced (readers room).statement (left tokens.now at)) (grown Block)) }
 {
-    let body = braced(alloc, tokens, room, at)?;
+    let body = braced(again, alloc, tokens, room, at)?;
     Ok(Found {
         tree: Stmt::Block(body.tree),
         height: body.height + 1,
@@ -506,27 +587,39 @@ fn block_statement(
 }
 
 /// Statements in braces.
-#[cycle(reading)]
-fn block(alloc: Global, tokens: &Tokens, room: u32, at: usize) -> Result<Found<Stmts>, Stop>
-    requires { room < 100 }
+fn block<R: Readers>(
+    again: &R,
+    alloc: Global,
+    tokens: &Tokens,
+    room: u32,
+    at: usize,
+) -> Result<Found<Stmts>, Stop>
+    requires few { room < 100 }
+    requires deep { room ≤ R.levels again.now }
     ensures low { IfOk result (λ f. f.height ≤ room) }
     ensures gives { Gives stmts_of tokens.now result (block (readers room) (left tokens.now at)) }
 {
     match open_brace(tokens, at) {
-        Some(after) => braced(alloc, tokens, room, after),
+        Some(after) => braced(again, alloc, tokens, room, after),
         None => Err(Stop::Syntax(at)),
     }
 }
 
 /// Statements and the brace after them.
-#[cycle(reading)]
 #[tactic(auto, unfolding(crate::specs::Read::braced))]
-pub fn braced(alloc: Global, tokens: &Tokens, room: u32, at: usize) -> Result<Found<Stmts>, Stop>
-    requires { room < 100 }
+pub fn braced<R: Readers>(
+    again: &R,
+    alloc: Global,
+    tokens: &Tokens,
+    room: u32,
+    at: usize,
+) -> Result<Found<Stmts>, Stop>
+    requires few { room < 100 }
+    requires deep { room ≤ R.levels again.now }
     ensures low { IfOk result (λ f. f.height ≤ room) }
     ensures gives { Gives stmts_of tokens.now result (braced (readers room).statement (left tokens.now at)) }
 {
-    let body = several(alloc, tokens, room, at)?;
+    let body = several(again, alloc, tokens, room, at)?;
     match close_brace(tokens, body.at) {
         Some(at) => Ok(Found {
             tree: body.tree,
@@ -538,9 +631,15 @@ pub fn braced(alloc: Global, tokens: &Tokens, room: u32, at: usize) -> Result<Fo
 }
 
 /// Statements up to a closing brace or the end of the text.
-#[cycle(reading)]
-pub fn several(alloc: Global, tokens: &Tokens, room: u32, at: usize) -> Result<Found<Stmts>, Stop>
-    requires { room ≤ 100 }
+pub fn several<R: Readers>(
+    again: &R,
+    alloc: Global,
+    tokens: &Tokens,
+    room: u32,
+    at: usize,
+) -> Result<Found<Stmts>, Stop>
+    requires few { room ≤ 100 }
+    requires deep { room ≤ R.levels again.now }
     ensures low { IfOk result (λ f. f.height ≤ room) }
     ensures gives { Gives stmts_of tokens.now result (several (readers room).statement (length (left tokens.now at) + 1) (left tokens.now at)) }
 {
@@ -559,7 +658,7 @@ pub fn several(alloc: Global, tokens: &Tokens, room: u32, at: usize) -> Result<F
                 at: begin,
             });
         }
-        let stmt = statement(alloc, tokens, room, begin)?;
+        let stmt = again.statement(alloc, tokens, room, begin)?;
         list.push(stmt.tree)?;
         height = height.max(stmt.height);
         begin = stmt.at;
@@ -568,15 +667,21 @@ pub fn several(alloc: Global, tokens: &Tokens, room: u32, at: usize) -> Result<F
 }
 
 /// What an `if`, an `else` or a loop governs: a block, `;`, or one statement.
-#[cycle(reading)]
 #[tactic(auto, unfolding(crate::specs::ReadStatements::governed))]
-fn governed(alloc: Global, tokens: &Tokens, room: u32, at: usize) -> Result<Found<Stmts>, Stop>
-    requires { room < 100 }
+fn governed<R: Readers>(
+    again: &R,
+    alloc: Global,
+    tokens: &Tokens,
+    room: u32,
+    at: usize,
+) -> Result<Found<Stmts>, Stop>
+    requires few { room < 100 }
+    requires deep { room ≤ R.levels again.now }
     ensures low { IfOk result (λ f. f.height ≤ room) }
     ensures gives { Gives stmts_of tokens.now result (governed (readers room) (left tokens.now at)) }
 {
     if let Some(after) = open_brace(tokens, at) {
-        return braced(alloc, tokens, room, after);
+        return braced(again, alloc, tokens, room, after);
     }
     let mut list = Vec::new(alloc);
     if let Some(at) = semi(tokens, at) {
@@ -586,7 +691,7 @@ fn governed(alloc: Global, tokens: &Tokens, room: u32, at: usize) -> Result<Foun
             at,
         });
     }
-    let stmt = statement(alloc, tokens, room, at)?;
+    let stmt = again.statement(alloc, tokens, room, at)?;
     list.push(stmt.tree)?;
     Ok(Found {
         tree: Stmts { list },
@@ -596,14 +701,15 @@ fn governed(alloc: Global, tokens: &Tokens, room: u32, at: usize) -> Result<Foun
 }
 
 /// The `else` of an `if`, where it has one.
-#[cycle(reading)]
-fn otherwise(
+fn otherwise<R: Readers>(
+    again: &R,
     alloc: Global,
     tokens: &Tokens,
     room: u32,
     at: usize,
 ) -> Result<Found<Option<Stmts>>, Stop>
-    requires { room < 100 }
+    requires few { room < 100 }
+    requires deep { room ≤ R.levels again.now }
     ensures low { IfOk result (λ f. f.height ≤ room) }
     ensures gives { Gives option_stms_from tokens.now result (otherwise (readers room) (left tokens.now at)) }
 {
@@ -614,7 +720,7 @@ fn otherwise(
             at,
         });
     };
-    let block = governed(alloc, tokens, room, after)?;
+    let block = governed(again, alloc, tokens, room, after)?;
     Ok(Found {
         tree: Some(block.tree),
         height: block.height,
