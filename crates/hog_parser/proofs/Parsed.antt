@@ -6,13 +6,13 @@ use Rattle.hog_grammar.specs.Pieces.{Lexed}
 use Rattle.hog_grammar.specs.Terminal.{terminals}
 use Rattle.hog_grammar.specs.Spelling.{Spells}
 use Rattle.hog_tree.specs.Count.{of_stms}
-use Rattle.hog_parser.specs.Read.{TooNested, Got}
-use Rattle.hog_parser.specs.ReadStatements.{program}
+use Rattle.hog_reading.specs.Read.{TooNested, Got}
+use Rattle.hog_reading.specs.ReadStatements.{program}
 use Rattle.hog_terms.specs.View.{left}
 use Rattle.hog_parser.specs.Before.{tokens_before}
-use Rattle.hog_parser.proofs.FromReading.{found}
-use Rattle.hog_parser.proofs.Count.{two_for_each}
-use Rattle.hog_parser.proofs.Nested.{nested_late}
+use Rattle.hog_spelling.proofs.FromReading.{found}
+use Rattle.hog_spelling.proofs.Count.{two_for_each}
+use Rattle.hog_spelling.proofs.Nested.{nested_late}
 use Rattle.hog_terms.proofs.Place.{left_length}
 
 pub found_in : (c : Lexed) (g : Got Stms) → program 100 (left c 0) ≡ Ok g → (h : ℕ) × (h ≤ 100) × Spells g.tree (terminals c.text c.list) h

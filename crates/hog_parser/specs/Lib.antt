@@ -1,5 +1,2 @@
 pub mod Before
-pub mod Read
-pub mod ReadStatements
-pub mod Gives
 pub mod Room

@@ -1,6 +1,6 @@
 -- How many levels are left.
 use Rattle.std.specs.Prelude.{ℕ, zero, suc}
-use Rattle.hog_parser.specs.declared.readers.Room.{Room, Out, More'}
+use Rattle.hog_parser.specs.declared.room.Room.{Room, Out, More'}
 
 abbrev pub rooms : Room → ℕ
 rooms Out = 0

@@ -1,16 +1,11 @@
 //! The parser: the tree that the tokens of a text spell.
-//! Stands on hog_terms, hog_grammar, hog_tree and hog_value.
+//! Stands on hog_expressions, hog_statements, hog_spelling, hog_reading, hog_terms, hog_grammar, hog_tree and hog_value.
 //! Above, `parse` is used: it gives the tree of a program of height 100 at most, with at most two statements
-//! and expressions for each token, and refuses just what is spelled at no height or is higher;
-//! `one_tree` is cited: a list of tokens spells at most one program, at one height.
+//! and expressions for each token, and refuses just what is spelled at no height or is higher.
+//! Its readers stand below, each proved alone; specs/Before.antt counts the tokens before a place.
 #![tactic(auto)]
 
-mod expressions;
-mod found;
-pub mod laws;
-mod parameters;
 mod parsing;
-mod readers;
-mod statements;
+mod room;
 
 pub use parsing::{ParseStop, parse};

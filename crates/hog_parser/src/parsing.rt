@@ -6,15 +6,15 @@ ghost use Rattle.hog_tree.specs.View.{tree_of};
 ghost use Rattle.hog_grammar.specs.Terminal.{terminals};
 ghost use Rattle.hog_grammar.specs.Spelling.{Spells};
 ghost use Rattle.hog_tree.specs.Count.{of_stms};
-ghost use Rattle.hog_parser.specs.ReadStatements.{program};
+ghost use Rattle.hog_reading.specs.ReadStatements.{program};
 ghost use Rattle.hog_terms.specs.View.{left};
 ghost use Rattle.hog_parser.specs.Before.{tokens_before};
-ghost use Rattle.hog_parser.specs.Gives.{Gives, stmts_of};
+ghost use Rattle.hog_reading.specs.Gives.{Gives, stmts_of};
 
-use crate::found::{Found, Stop};
-use crate::readers::Room;
-use crate::statements::several;
+use crate::room::Room;
 use hog_grammar::Tokens;
+use hog_reading::blocks::several;
+use hog_reading::found::{Found, Stop};
 use hog_terms::marks::close_brace;
 use hog_tree::tree::{Stmts, Tree};
 use std::alloc::{AllocError, Global};
@@ -43,7 +43,7 @@ impl From<AllocError> for ParseStop {
 }
 
 /// The statements that all tokens spell.
-#[tactic(auto, unfolding(crate::specs::ReadStatements::program))]
+#[tactic(auto, unfolding(hog_reading::specs::ReadStatements::program))]
 fn whole(alloc: Global, tokens: &Tokens) -> Result<Found<Stmts>, Stop>
     ensures { Gives stmts_of tokens.now result (program 100 (left tokens.now 0)) }
 {

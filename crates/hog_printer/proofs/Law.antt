@@ -4,7 +4,7 @@ use Rattle.hog_grammar.specs.declared.token.Token.{Token}
 use Rattle.hog_grammar.specs.Terminal.{Terminal, terminals}
 use Rattle.hog_grammar.specs.Spelling.{Spells}
 use Rattle.hog_tokens.proofs.TextLaws.{one_list}
-use Rattle.hog_parser.proofs.Complete.{one_tree}
+use Rattle.hog_spelling.proofs.Complete.{one_tree}
 use Rattle.hog_printer.specs.Laws.{ReadsBack, ReadsBackOnly}
 use Rattle.hog_printer.specs.Print.{printed}
 use Rattle.hog_printer.proofs.Tokens.{stms_tokens}

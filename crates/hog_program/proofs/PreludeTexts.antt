@@ -7,10 +7,10 @@ use Rattle.hog_grammar.specs.Bytes.{class, Letter, is_word, AllOf}
 use Rattle.hog_grammar.specs.Spelling.{Spells}
 use Rattle.hog_grammar.specs.Terminal.{Terminal, terminals, word}
 use Rattle.hog_grammar.specs.Terminal as k
-use Rattle.hog_parser.specs.ReadStatements.{program}
-use Rattle.hog_parser.proofs.Climb.{Ends, ends, deeper}
-use Rattle.hog_parser.proofs.Complete.{program_reads}
-use Rattle.hog_parser.proofs.Nested.{passed_late}
+use Rattle.hog_reading.specs.ReadStatements.{program}
+use Rattle.hog_spelling.proofs.Comes.{Ends, ends, deeper}
+use Rattle.hog_spelling.proofs.Complete.{program_reads}
+use Rattle.hog_spelling.proofs.Nested.{passed_late}
 use Rattle.hog_printer.specs.Print.{printed}
 use Rattle.hog_printer.proofs.Fit.{IsFree, FitStms, FitExp}
 use Rattle.hog_printer.proofs.Tokens.{stms_tokens}

@@ -14,7 +14,7 @@ pub fn one_tree()
     ensures { (source : List ℕ) (a b : Stms) → IsProgram source a → IsProgram source b → a ≡ b }
 {
     hog_tokens::laws::one_list();
-    hog_parser::laws::one_tree();
+    hog_spelling::laws::one_tree();
 }
 
 /// A source that is a program has no refusal.
@@ -30,7 +30,7 @@ pub fn one_whole()
     ensures { (source : List ℕ) (a b : Stms) → IsBuilt source a → IsBuilt source b → a ≡ b }
 {
     hog_tokens::laws::one_list();
-    hog_parser::laws::one_tree();
+    hog_spelling::laws::one_tree();
 }
 
 /// A source that is built has no refusal.
@@ -39,7 +39,7 @@ pub fn built_or_unbuilt()
 {
     program_or_none();
     hog_tokens::laws::one_list();
-    hog_parser::laws::one_tree();
+    hog_spelling::laws::one_tree();
 }
 
 /// The printed text of a program is that program again, where it is no longer and no higher than a program may be.

@@ -1,8 +1,8 @@
 use Rattle.std.proofs.Common.{◌≡◌}
 use Rattle.hog_tree.specs.View.{stms_from}
-use Rattle.hog_parser.specs.Read.{got}
+use Rattle.hog_reading.specs.Read.{got}
 use Rattle.hog_terms.specs.View.{left}
-use Rattle.hog_parser.proofs.FromReading.{no_syntax, too_high}
+use Rattle.hog_spelling.proofs.FromReading.{no_syntax, too_high}
 use Rattle.hog_parser.proofs.Parsed.{found_in, count_in, late_in}
 use Rattle.hog_parser.proofs.parsing.parse.Goals as goal
 

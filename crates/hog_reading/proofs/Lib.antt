@@ -1,0 +1,4 @@
+pub mod Climb
+pub mod Unfold
+pub mod ListLoops
+pub mod SeveralLoop

@@ -1,0 +1,18 @@
+use Rattle.std.proofs.Common.{◌-◌, max, arith}
+use Rattle.hog_tree.specs.View.{exp_of, stms_from, option_stms_from}
+use Rattle.hog_reading.specs.Read.{got}
+use Rattle.hog_reading.specs.ReadStatements.{readers}
+use Rattle.hog_terms.specs.View.{left}
+use Rattle.hog_reading.specs.Gives.{stmts_of}
+use Rattle.hog_tree.proofs.Rows.{if_is}
+use Rattle.hog_statements.proofs.Compounds.{if_gives}
+use Rattle.hog_statements.proofs.statements.if_else.Goals as goal
+
+pub returns-clause-gives : goal.returns-clause-gives
+returns-clause-gives g c =
+    let e = c.in_ok-test.test in
+    let b = c.in_ok-body.body in
+    let o = c.in_ok-other.other in
+    let ts = c.args.tokens.now in
+    if_gives (readers c.args.room) (left ts c.args.at) (got (exp_of e.tree) e.height (left ts e.at)) (got (stmts_of b.tree) b.height (left ts b.at)) (got (option_stms_from o.tree) o.height (left ts o.at)) _ _
+    c.in_ok-test.ensures.gives c.in_ok-body.ensures.gives c.in_ok-other.ensures.gives (if_is e.tree b.tree o.tree) (let m = c.max.ensures in let n = c.max-2.ensures in omega (arith, m, n))
