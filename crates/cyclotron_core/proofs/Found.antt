@@ -1,5 +1,5 @@
 -- The rows that the tests of a call find, before and after its queue is opened.
-use Rattle.std.proofs.Common.{◌≡◌, ◌≢◌, ℕ, ◌+◌, ◌<◌, ◌≤◌, ◌++◌, ◌∷◌, [], Bool, set, inl, inr, List, length, get_or, refl, ap, sym, ◌∙◌, subst, arith, Some, None, Option, MatchOption, IfSome, slice_get}
+use Rattle.std.proofs.Common.{◌≡◌, ◌≢◌, ℕ, ◌+◌, ◌<◌, ◌≤◌, ◌++◌, ◌∷◌, [], Bool, set, inl, inr, List, length, get_or, refl, ap, sym, ◌∙◌, subst, arith, Some, None, Option, MatchOption, IfSome, slice_get, is_some}
 use Rattle.std.proofs.lemmas.Option.{slice_get_read, slice_get_cases, same_Some}
 use Rattle.lock_ids.specs.declared.lock.LockId.{LockId}
 use Rattle.cyclotron_jobs.specs.declared.input.JobInput.{JobInput}
@@ -17,6 +17,8 @@ use Rattle.queue_history.specs.Due.{IsFirstDue, NoneDue, IsFirstStale, NoneStale
 use Rattle.queue_history.specs.Rows.{IsKept}
 use Rattle.cyclotron_core.specs.Queue.{QueueOf}
 use Rattle.job_keeper.specs.Held.{PutsRow}
+use Rattle.index_lists.specs.Lists.{ListsOf}
+use Rattle.cyclotron_core.specs.Listing.{list_of, list_in, waiting_list, running_list, IsListing, IsListingBefore}
 use Rattle.cyclotron_core.specs.Changes.{HasState, IsLeaseAt, IsTake, lease_of, row_after_take}
 use Rattle.cyclotron_core.specs.Refusals.{IsOwner, IsOwnedBy, BeganAt, Finds}
 
@@ -83,6 +85,34 @@ pub record IsLiveRow (rows : List Row) (history : List Entry) (lock : LockId) (a
   pub there : slice_get rows lock.job ≡ Some row
   pub locked : row.lock ≡ Some lock
   pub owner : (facts_of lock.job history).owner ≡ Some lock
+
+-- a row was written that stood in a list
+pub IsListingBefore-set : {rows seen : List Row} {lists : ListsOf} {job list : ℕ} {old : Row} (new : Row) → IsListing rows lists → slice_get rows job ≡ Some old → list_in old.state old.queue ≡ Some list
+    → seen ≡ set rows job new → IsListingBefore job seen lists
+IsListingBefore-set {rows} {job = job} {list} new listing here stood written = record {
+  old = rows;
+  row = new;
+  written = written;
+  listing = listing;
+  list = list;
+  stood = ap list_of here ∙ stood;
+}
+
+-- an available job was taken
+pub IsListingBefore-available : {rows seen : List Row} {lists : ListsOf} {job : ℕ} {old : Row} (new : Row) → IsListing rows lists → slice_get rows job ≡ Some old → old.state ≡ Available
+    → seen ≡ set rows job new → IsListingBefore job seen lists
+IsListingBefore-available {old = old} new listing here state written = let stood : list_in old.state old.queue ≡ Some (waiting_list old.queue) = rw state refl in IsListingBefore-set new listing here stood written
+
+-- a running job was changed
+pub IsListingBefore-running : {rows seen : List Row} {lists : ListsOf} {job : ℕ} {old : Row} (new : Row) → IsListing rows lists → slice_get rows job ≡ Some old → old.state ≡ Running
+    → seen ≡ set rows job new → IsListingBefore job seen lists
+IsListingBefore-running {old = old} new listing here state written = let stood : list_in old.state old.queue ≡ Some running_list = rw state refl in IsListingBefore-set new listing here stood written
+
+-- the owner of a job changed it
+pub IsListingBefore-live : {takes : InputRule} {on_course : CourseRule} {reply_ok : ReplyRule} {rows seen : List Row} {history : List Entry} {lists : ListsOf} {lock : LockId} {at : ℕ} {old : Row} (new : Row)
+    → IsKept takes on_course reply_ok rows history → IsListing rows lists → IsLiveRow rows history lock at old → seen ≡ set rows at new → IsListingBefore lock.job seen lists
+IsListingBefore-live {rows = rows} {lock = lock} {old = old} new kept listing live written =
+    IsListingBefore-running new listing live.there (kept.locked lock.job old live.there (ap is_some live.locked)) (written ∙ ap (λ (k : ℕ). set rows k new) live.place)
 
 -- what is known of a queue is known of its parts
 module _ {K : Type 0} {a b : QueueOf K} (same : a ≡ b) where

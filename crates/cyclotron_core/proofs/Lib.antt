@@ -1,3 +1,5 @@
 pub mod Sound
 pub mod Rooms
 pub mod Found
+pub mod Moves
+pub mod Walks

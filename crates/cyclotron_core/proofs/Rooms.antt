@@ -1,4 +1,4 @@
--- Each running job keeps room for one more reply.
+-- Each running job keeps room for one more reply, and a step, a refusal and a new job leave a queue one.
 use Rattle.std.proofs.Common.{◌≡◌, ◌≢◌, ℕ, ℤ, ◌+◌, ◌<◌, Bool, true, false, cond, List, [], ◌∷◌, ◌++◌, inl, inr, length, get_or, set, ap, sym, ◌∙◌, subst, arith, Some, Option, slice_get, length-set}
 use Rattle.std.specs.Prelude.{if◌then◌else◌, nat_le}
 use Rattle.std.proofs.lemmas.List.{length_push}
@@ -21,7 +21,9 @@ use Rattle.queue_history.specs.Rows.{IsNewRow, inputs_of}
 use Rattle.queue_history.proofs.Step.{IsStep}
 use Rattle.queue_history.proofs.Places.{slice_get_set, slice_get_push}
 use Rattle.job_keeper.specs.Held.{PutsRow, SameRows}
+use Rattle.index_lists.specs.Lists.{ListsOf}
 use Rattle.cyclotron_core.specs.Queue.{IsQueue, IsRoom, IsRoomy}
+use Rattle.cyclotron_core.specs.Listing.{IsListing}
 use Rattle.cyclotron_core.proofs.Sound.{IsSound-step, IsSound-refused, IsSound-enqueue, set-undone}
 use Rattle.std.proofs.lemmas.Option.{slice_get_within}
 
@@ -77,40 +79,56 @@ swept_rests false = λ (e : Available ≡ Running). absurd cc
 pub swept_state-rests : (n : ℕ) → swept_state n ≢ Running
 swept_state-rests n = swept_rests (nat_le 3 n)
 
-module _ {takes : InputRule} {on_course : CourseRule} {reply_ok : ReplyRule} {tells : Bool} {rows : List Row} {history : List Entry} {drawn : ℕ} {held : ℕ → Option Row} {rooms : List (Vec Reply Global)} (queue : IsQueue takes on_course reply_ok tells rows history drawn held rooms) where
-  pub IsQueue-step : {held' : ℕ → Option Row} {old new : Row} {e : Entry} {drawn' i : ℕ}
+module _ {takes : InputRule} {on_course : CourseRule} {reply_ok : ReplyRule} {tells : Bool} {rows : List Row} {history : List Entry} {drawn : ℕ} {held : ℕ → Option Row} {rooms : List (Vec Reply Global)} {lists : ListsOf} (queue : IsQueue takes on_course reply_ok tells rows history drawn held rooms lists) where
+  pub IsQueue-step : {held' : ℕ → Option Row} {old new : Row} {e : Entry} {drawn' i : ℕ} {lists' : ListsOf}
       → slice_get rows i ≡ Some old → MayFollow takes reply_ok (inputs_of rows) history e → IsStep on_course history i old new e
       → drawn' ≡ drawn + cond (is_taken e) 1 0 → PutsRow tells held held' new
-      → (new.state ≡ Running → (old.state ≡ Running) × (old.replies ≡ new.replies))
-      → IsQueue takes on_course reply_ok tells (set rows i new) (history ++ e ∷ []) drawn' held' rooms
-  IsQueue-step {i = i} at may step draws put rests = record { sound = IsSound-step queue.sound at may step draws put; roomy = IsRoomy-step queue.roomy i at _ rests }
+      → (new.state ≡ Running → (old.state ≡ Running) × (old.replies ≡ new.replies)) → IsListing (set rows i new) lists'
+      → IsQueue takes on_course reply_ok tells (set rows i new) (history ++ e ∷ []) drawn' held' rooms lists'
+  IsQueue-step {i = i} at may step draws put rests listed = record { sound = IsSound-step queue.sound at may step draws put; roomy = IsRoomy-step queue.roomy i at _ rests; listed = listed }
 
-  pub IsQueue-step_room : {held' : ℕ → Option Row} {old new : Row} {e : Entry} {drawn' i : ℕ} {room : Vec Reply Global}
+  pub IsQueue-step_room : {held' : ℕ → Option Row} {old new : Row} {e : Entry} {drawn' i : ℕ} {room : Vec Reply Global} {lists' : ListsOf}
       → slice_get rows i ≡ Some old → MayFollow takes reply_ok (inputs_of rows) history e → IsStep on_course history i old new e
       → drawn' ≡ drawn + cond (is_taken e) 1 0 → PutsRow tells held held' new
-      → (new.state ≡ Running → IsRoom new.replies room)
-      → IsQueue takes on_course reply_ok tells (set rows i new) (history ++ e ∷ []) drawn' held' (set rooms i room)
-  IsQueue-step_room {i = i} {room = room} at may step draws put fresh = record { sound = IsSound-step queue.sound at may step draws put; roomy = IsRoomy-both queue.roomy i _ room fresh }
+      → (new.state ≡ Running → IsRoom new.replies room) → IsListing (set rows i new) lists'
+      → IsQueue takes on_course reply_ok tells (set rows i new) (history ++ e ∷ []) drawn' held' (set rooms i room) lists'
+  IsQueue-step_room {i = i} {room = room} at may step draws put fresh listed = record { sound = IsSound-step queue.sound at may step draws put; roomy = IsRoomy-both queue.roomy i _ room fresh; listed = listed }
+
+  -- the keeper refused, and more nodes were reserved
+  pub IsQueue-told : {held' : ℕ → Option Row} {lists' : ListsOf} → SameRows tells held held' → IsListing rows lists'
+      → IsQueue takes on_course reply_ok tells rows history drawn held' rooms lists'
+  IsQueue-told put listed = record {
+    sound = record {
+      kept = queue.sound.kept;
+      draws = queue.sound.draws;
+      holds = λ tells k row there. put tells k ∙ queue.sound.holds tells k row there;
+    };
+    roomy = queue.roomy;
+    listed = listed;
+  }
 
   pub IsQueue-refused : {held' : ℕ → Option Row} {old new : Row} → (i : ℕ) → old ≡ get_or rows i old → new ≡ old → SameRows tells held held'
-      → IsQueue takes on_course reply_ok tells (set rows i new) history drawn held' rooms
+      → IsQueue takes on_course reply_ok tells (set rows i new) history drawn held' rooms lists
   IsQueue-refused {old = old} i is undone put = record {
     sound = IsSound-refused queue.sound i is undone put;
     roomy = subst (λ (rs : List Row). IsRoomy rs rooms) (sym (set-undone rows i is undone)) queue.roomy;
+    listed = subst (λ (rs : List Row). IsListing rs lists) (sym (set-undone rows i is undone)) queue.listed;
   }
 
   pub IsQueue-refused_room : {held' : ℕ → Option Row} {old new : Row} {room : Vec Reply Global} → (i : ℕ) → old ≡ get_or rows i old → new ≡ old → SameRows tells held held' → IsRoom old.replies room
-      → IsQueue takes on_course reply_ok tells (set rows i new) history drawn held' (set rooms i room)
+      → IsQueue takes on_course reply_ok tells (set rows i new) history drawn held' (set rooms i room) lists
   IsQueue-refused_room {old = old} {new} {room} i is undone put fresh = record {
     sound = IsSound-refused queue.sound i is undone put;
     roomy = IsRoomy-both queue.roomy i new room (λ _. subst (λ (r : Row). IsRoom r.replies room) (sym undone) fresh);
+    listed = subst (λ (rs : List Row). IsListing rs lists) (sym (set-undone rows i is undone)) queue.listed;
   }
 
-  pub IsQueue-enqueue : {held' : ℕ → Option Row} {row : Row} {job : ℕ} {input : JobInput} {priority : ℤ} {at : ℕ} (room : Vec Reply Global)
+  pub IsQueue-enqueue : {held' : ℕ → Option Row} {row : Row} {job : ℕ} {input : JobInput} {priority : ℤ} {at : ℕ} {lists' : ListsOf} (room : Vec Reply Global)
       → IsNewRow row job input priority at → job ≡ length rows → job < 16384 → takes input → on_course input [] 0 [] shows_nothing after.Hog
-      → PutsRow tells held held' row
-      → IsQueue takes on_course reply_ok tells (rows ++ row ∷ []) (history ++ Queued job priority at ∷ []) drawn held' (rooms ++ room ∷ [])
-  IsQueue-enqueue {row = row} room new number few taken begins put = record {
+      → PutsRow tells held held' row → IsListing (rows ++ row ∷ []) lists'
+      → IsQueue takes on_course reply_ok tells (rows ++ row ∷ []) (history ++ Queued job priority at ∷ []) drawn held' (rooms ++ room ∷ []) lists'
+  IsQueue-enqueue {row = row} room new number few taken begins put listed = record {
     sound = IsSound-enqueue queue.sound new number few taken begins put;
     roomy = IsRoomy-push queue.roomy row room new.state;
+    listed = listed;
   }

@@ -1,3 +1,5 @@
+pub mod Orders
+pub mod Listing
 pub mod Queue
 pub mod Changes
 pub mod Puts

@@ -9,6 +9,8 @@ use Rattle.cyclotron_jobs.specs.declared.entry.Entry.{Entry}
 use Rattle.queue_history.specs.Rules.{InputRule, CourseRule, ReplyRule}
 use Rattle.queue_history.specs.Facts.{takes_of}
 use Rattle.queue_history.specs.Rows.{IsKept}
+use Rattle.index_lists.specs.Lists.{ListsOf}
+use Rattle.cyclotron_core.specs.Listing.{IsListing}
 
 -- the rows by job number, the history, the room for more entries, and the keeper
 pub record QueueOf (K : Type 0) : Type 0 where
@@ -37,6 +39,7 @@ pub record IsRoomy (rows : List Row) (rooms : List (Vec Reply Global)) : Type 0 
   pub count : length rooms ≡ length rows
   pub each : (k : ℕ) (row : Row) (room : Vec Reply Global) → slice_get rows k ≡ Some row → slice_get rooms k ≡ Some room → row.state ≡ Running → IsRoom row.replies room
 
-pub record IsQueue (takes : InputRule) (on_course : CourseRule) (reply_ok : ReplyRule) (tells : Bool) (rows : List Row) (history : List Entry) (drawn : ℕ) (held : ℕ → Option Row) (rooms : List (Vec Reply Global)) : Type 0 where
+pub record IsQueue (takes : InputRule) (on_course : CourseRule) (reply_ok : ReplyRule) (tells : Bool) (rows : List Row) (history : List Entry) (drawn : ℕ) (held : ℕ → Option Row) (rooms : List (Vec Reply Global)) (lists : ListsOf) : Type 0 where
   pub sound : IsSound takes on_course reply_ok tells rows history drawn held
   pub roomy : IsRoomy rows rooms
+  pub listed : IsListing rows lists

@@ -12,6 +12,7 @@ ghost use Rattle.cyclotron_core.specs.Queue.{HoldsRows};
 ghost use Rattle.cyclotron_core.specs.Changes.{IsOneStep, IsUntouched, IsEnqueue, IsTake, IsSweep, IsLeaseAt, HasState, is_unfinished, row_after_beat, row_after_run, row_after_reply, row_after_put_back};
 ghost use Rattle.cyclotron_core.specs.Refusals.{IsOwner, IsOwnedBy, BeganAt, RunBegan, AnswerBegan, KeeperRose, Refuses, Finds, FindFails};
 
+use crate::listing::{LISTS, RUNNING, move_job, place, waiting};
 use crate::put::{put_back, put_beat, put_new, put_reply, put_run, put_sweep, put_take};
 use crate::stop::{EnqueueStop, TakeStop};
 use cyclotron_jobs::course::Course;
@@ -23,11 +24,10 @@ use cyclotron_jobs::row::{After, JobState, Next, QueueName, Row, copy_asks};
 use cyclotron_jobs::sweeps::Sweeps;
 use hog_value::items::Bytes;
 use hog_value::trace::{Shown, Trace};
+use index_lists::Lists;
 use job_keeper::keeper::Keeper;
 use lock_ids::lock::LockId;
-use queue_history::turn::{Silence, Turn, compare_silences, compare_turns};
 use std::alloc::{AllocError, Global};
-use std::cmp::Ordering;
 use std::marker::{Model, PhantomData};
 use std::snapshot::Snapshot;
 
@@ -44,6 +44,8 @@ pub struct QueueState<C: Course, K: Keeper> {
     rows: Vec<Row>,
     // For each running job, a copy of its replies with room for one more, so that a flush takes no memory.
     rooms: Vec<Vec<Reply>>,
+    // Where the jobs stand that wait or run.
+    lists: Lists,
     history: Vec<Entry>,
     // How many takes there were.
     draws: u64,
@@ -65,7 +67,7 @@ impl<C: Course, K: Keeper> Model for QueueState<C, K> {
     } };
 
     ghost invariant = { λ q.
-        IsQueue C.takes C.on_course C.reply_ok K.tells q.rows.items q.history.items q.draws (K.held q.keeper) q.rooms.items };
+        IsQueue C.takes C.on_course C.reply_ok K.tells q.rows.items q.history.items q.draws (K.held q.keeper) q.rooms.items q.lists };
 }
 
 impl<C: Course, K: Keeper> QueueState<C, K> {
@@ -78,6 +80,7 @@ impl<C: Course, K: Keeper> QueueState<C, K> {
         QueueState {
             rows: Vec::new(alloc),
             rooms: Vec::new(alloc),
+            lists: Lists::new(alloc, LISTS),
             history: Vec::new(alloc),
             draws: 0,
             keeper,
@@ -151,15 +154,10 @@ impl<C: Course, K: Keeper> QueueState<C, K> {
         }
         let alloc = *self.rows.allocator();
         let job = self.rows.len() as u32;
-        if self.rows.reserve(1).is_err() {
-            return Err(EnqueueStop::OutOfMemory);
-        }
-        if self.rooms.reserve(1).is_err() {
-            return Err(EnqueueStop::OutOfMemory);
-        }
-        if self.history.reserve(1).is_err() {
-            return Err(EnqueueStop::OutOfMemory);
-        }
+        self.rows.reserve(1)?;
+        self.rooms.reserve(1)?;
+        self.history.reserve(1)?;
+        self.lists.reserve(job + 1)?;
         let row = new_row(alloc, job, input, priority, at);
         match put_new(&row, &mut self.keeper) {
             Err(TakeStop::Keeper) => return Err(EnqueueStop::Keeper),
@@ -168,6 +166,7 @@ impl<C: Course, K: Keeper> QueueState<C, K> {
         }
         self.rows.push_reserved(row);
         self.rooms.push_reserved(Vec::new(alloc));
+        place(&mut self.lists, self.rows.as_slice(), job);
         self.history
             .push_reserved(Entry::Queued { job, priority, at });
         Ok(job)
@@ -190,31 +189,30 @@ impl<C: Course, K: Keeper> QueueState<C, K> {
         ensures err { OnErr result (IsUntouched K.tells K.held self.old self.new) }
         ensures count { K.faults self.old.keeper ≤ K.faults self.new.keeper }
     {
-        let Some(at) = self.first_due(queue, now) else {
+        let Some(job) = self.first_due(queue, now) else {
             return Ok(None);
         };
-        let lock = LockId {
-            job: at as u32,
-            draw: self.next_draw(),
-        };
-        let Ok(lease) = self.leased(at, lock) else {
+        let draw = self.next_draw();
+        let lock = LockId { job, draw };
+        let Ok(lease) = self.leased(job, lock) else {
             return Err(TakeStop::OutOfMemory);
         };
-        let Ok(room) = self.rows[at].replies.with_room() else {
+        let Ok(room) = self.rows[job as usize].replies.with_room() else {
             return Err(TakeStop::OutOfMemory);
         };
         if self.history.reserve(1).is_err() {
             return Err(TakeStop::OutOfMemory);
         }
-        let row = &mut self.rows[at];
+        let row = &mut self.rows[job as usize];
         match put_take(row, &mut self.keeper, lock, now) {
             Err(stop) => return Err(stop),
             Ok(()) => {}
         }
-        self.rooms[at] = room;
+        self.rooms[job as usize] = room;
         self.draws += 1;
+        move_job(&mut self.lists, self.rows.as_slice(), job);
         self.history.push_reserved(Entry::Taken {
-            job: lock.job,
+            job,
             queue,
             lock,
             now,
@@ -228,34 +226,27 @@ impl<C: Course, K: Keeper> QueueState<C, K> {
         self.draws + 1
     }
 
-    /// The job that is due first.
-    fn first_due(&self, queue: QueueName, now: u64) -> Option<usize>
+    /// The job that is due first: the walk passes those whose moment hasn't come.
+    fn first_due(&self, queue: QueueName, now: u64) -> Option<u32>
         ensures first { MatchOption result (NoneDue self.now.history queue now) (IsFirstDue self.now.history queue now) }
         ensures row { IfSome result (HasState self.now.rows JobState.Available) }
     {
-        let mut best: Option<usize> = None;
-        for i in 0..self.rows.len() {
-            let row = &self.rows[i];
-            if is_due(row, queue, now) {
-                match best {
-                    None => best = Some(i),
-                    Some(b) => {
-                        if is_taken_before(row, &self.rows[b]) {
-                            best = Some(i);
-                        }
-                    }
-                }
+        let mut at = self.lists.first(waiting(queue));
+        'walk: while let Some(job) = at {
+            if self.rows[job as usize].scheduled <= now {
+                return Some(job);
             }
+            at = self.lists.next(job);
         }
-        best
+        None
     }
 
     /// The lease of a job that is to be taken.
-    fn leased(&self, at: usize, lock: LockId) -> Result<Lease<C>, AllocError>
-        requires { HasState self.now.rows JobState.Available at }
-        ensures { IfOk result (IsLeaseAt self.now.rows at lock) }
+    fn leased(&self, job: u32, lock: LockId) -> Result<Lease<C>, AllocError>
+        requires { HasState self.now.rows JobState.Available job }
+        ensures { IfOk result (IsLeaseAt self.now.rows job lock) }
     {
-        let row = &self.rows[at];
+        let row = &self.rows[job as usize];
         Ok(Lease {
             lock,
             queue: row.queue,
@@ -323,6 +314,7 @@ impl<C: Course, K: Keeper> QueueState<C, K> {
             Err(stop) => return Err(stop),
             Ok(()) => {}
         }
+        move_job(&mut self.lists, self.rows.as_slice(), lock.job);
         self.history.push_reserved(Entry::Beat {
             job: lock.job,
             lock,
@@ -374,6 +366,7 @@ impl<C: Course, K: Keeper> QueueState<C, K> {
             Err(refused) => return Err(refused),
             Ok(()) => {}
         }
+        move_job(&mut self.lists, self.rows.as_slice(), lock.job);
         self.history.push_reserved(Entry::Ran {
             job: lock.job,
             lock,
@@ -433,6 +426,7 @@ impl<C: Course, K: Keeper> QueueState<C, K> {
         match put_reply(row, room, &mut self.keeper, answered) {
             Err(refused) => Err(refused),
             Ok(reply) => {
+                move_job(&mut self.lists, self.rows.as_slice(), lock.job);
                 self.history.push_reserved(Entry::Replied {
                     job: lock.job,
                     lock,
@@ -469,6 +463,7 @@ impl<C: Course, K: Keeper> QueueState<C, K> {
             Err(stop) => return Err(stop),
             Ok(()) => {}
         }
+        move_job(&mut self.lists, self.rows.as_slice(), lock.job);
         self.history.push_reserved(Entry::PutBack {
             job: lock.job,
             lock,
@@ -487,43 +482,34 @@ impl<C: Course, K: Keeper> QueueState<C, K> {
         ensures succeeds { K.sure ≡ true → 1 ≤ self.old.spare → IsOk result }
         ensures count { K.faults self.old.keeper ≤ K.faults self.new.keeper }
     {
-        let Some(at) = self.first_stale(now) else {
+        let Some(job) = self.first_stale(now) else {
             return Ok(None);
         };
-        let job = at as u32;
         if self.history.reserve(1).is_err() {
             return Err(TakeStop::OutOfMemory);
         }
-        let row = &mut self.rows[at];
+        let row = &mut self.rows[job as usize];
         let beat = row.beat;
         match put_sweep(row, &mut self.keeper, now) {
             Err(stop) => return Err(stop),
             Ok(()) => {}
         }
+        move_job(&mut self.lists, self.rows.as_slice(), job);
         self.history.push_reserved(Entry::Swept { job, now, beat });
         Ok(Some(job))
     }
 
-    /// The job that is stale first.
-    fn first_stale(&self, now: u64) -> Option<usize>
+    /// The job that is stale first: the one that has been silent for longest, where it is stale.
+    fn first_stale(&self, now: u64) -> Option<u32>
         ensures first { MatchOption result (NoneStale self.now.history now) (IsFirstStale self.now.history now) }
         ensures row { IfSome result (HasState self.now.rows JobState.Running) }
     {
-        let mut best: Option<usize> = None;
-        for i in 0..self.rows.len() {
-            let row = &self.rows[i];
-            if is_stale(row, now) {
-                match best {
-                    None => best = Some(i),
-                    Some(b) => {
-                        if is_swept_before(row, &self.rows[b]) {
-                            best = Some(i);
-                        }
-                    }
-                }
-            }
+        let job = self.lists.first(RUNNING)?;
+        if is_silent(self.rows[job as usize].beat, now) {
+            Some(job)
+        } else {
+            None
         }
-        best
     }
 }
 
@@ -537,47 +523,11 @@ fn kind_of(after: &After) -> Next
     }
 }
 
-fn is_due(row: &Row, queue: QueueName, now: u64) -> bool
-    ensures { IsTrue result ↔ IsDueRow queue now row.now }
+/// Whether a job with this last beat may be swept.
+fn is_silent(beat: u64, now: u64) -> bool
+    ensures { IsTrue result ↔ (beat + 30000 ≤ now) }
 {
-    row.state == JobState::Available && row.queue == queue && row.scheduled <= now
-}
-
-fn turn(row: &Row) -> Turn
-    ensures { result ≡ turn_of_row row.now }
-{
-    Turn {
-        priority: row.priority,
-        moment: row.scheduled,
-        job: row.job,
-    }
-}
-
-fn is_taken_before(row: &Row, other: &Row) -> bool
-    ensures { IsTrue result ↔ (turn_cmp (turn_of_row row.now) (turn_of_row other.now) ≡ Ordering.Less) }
-{
-    compare_turns(turn(row), turn(other)) == Ordering::Less
-}
-
-fn is_stale(row: &Row, now: u64) -> bool
-    ensures { IsTrue result ↔ IsStaleRow now row.now }
-{
-    row.state == JobState::Running && row.beat <= now && now - row.beat >= STALE_AFTER
-}
-
-fn silence(row: &Row) -> Silence
-    ensures { result ≡ silence_of_row row.now }
-{
-    Silence {
-        beat: row.beat,
-        job: row.job,
-    }
-}
-
-fn is_swept_before(row: &Row, other: &Row) -> bool
-    ensures { IsTrue result ↔ (silence_cmp (silence_of_row row.now) (silence_of_row other.now) ≡ Ordering.Less) }
-{
-    compare_silences(silence(row), silence(other)) == Ordering::Less
+    beat <= now && now - beat >= STALE_AFTER
 }
 
 fn new_row(alloc: Global, job: u32, input: JobInput, priority: i16, at: u64) -> Row

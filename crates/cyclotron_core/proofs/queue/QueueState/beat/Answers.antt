@@ -1,9 +1,16 @@
-use Rattle.std.proofs.Common.{◌++◌, ◌∷◌, [], refl, ap, sym, ◌∙◌, arith, add-zero}
+use Rattle.std.proofs.Common.{List, ◌++◌, ◌∷◌, [], set, refl, ap, sym, ◌∙◌, subst, arith, add-zero}
+use Rattle.cyclotron_jobs.specs.declared.row.Row.{Row}
 use Rattle.cyclotron_jobs.specs.declared.entry.Entry.TheVariants.{Beat}
 use Rattle.queue_history.proofs.Steps.{IsStep-beat}
-use Rattle.cyclotron_core.proofs.Found.{IsLiveRow-from}
+use Rattle.cyclotron_core.specs.Listing.{IsListing}
+use Rattle.cyclotron_core.proofs.Found.{IsLiveRow-from, IsListingBefore-live}
 use Rattle.cyclotron_core.proofs.Rooms.{IsQueue-step}
 use Rattle.cyclotron_core.proofs.queue.QueueState.beat.Goals as goal
+
+pub move_job-requires : goal.move_job-requires
+move_job-requires g c =
+    let live = IsLiveRow-from c.self.view_is c.in-Ok.ensures.found c.in-Ok.ensures.owner c.index_mut-row.result.now c.index_mut-row.ensures.value in
+    IsListingBefore-live _ c.self.invariant.sound.kept c.self.invariant.listed live c.as_slice.ensures.value
 
 pub invariant_of-self-2 : goal.invariant_of-self-2
 invariant_of-self-2 g c =
@@ -11,7 +18,8 @@ invariant_of-self-2 g c =
     rw (c.push_reserved.ensures.items, c.reserve.ensures.items, c.in-Ok-put_beat.ensures.ok)
     (IsQueue-step c.self.invariant live.read live.owner
     (IsStep-beat c.self.invariant.sound.kept c.in-Ok.at live.read c.args.lock.job (sym live.place) c.args.lock c.args.now)
-    (sym (add-zero _)) (c.in-Ok-put_beat.ensures.put.ok refl) (λ runs. (runs, refl)))
+    (sym (add-zero _)) (c.in-Ok-put_beat.ensures.put.ok refl) (λ runs. (runs, refl))
+    (subst (λ (rows : List Row). IsListing rows c.move_job.new.lists) (c.as_slice.ensures.value ∙ ap (λ (r : Row). set c.self.inside.rows.items c.in-Ok.at r) c.in-Ok-put_beat.ensures.ok) c.move_job.ensures))
 
 pub returns-clause-ok : goal.returns-clause-ok
 returns-clause-ok g c =

@@ -1,4 +1,4 @@
-use Rattle.std.proofs.Common.{◌≡◌, ◌<◌, List, length, refl, ap, sym, ◌∙◌, subst, arith, add-zero, Some, slice_get, is_some, option_map}
+use Rattle.std.proofs.Common.{◌≡◌, ◌<◌, List, length, set, refl, ap, sym, ◌∙◌, subst, arith, add-zero, Some, slice_get, is_some, option_map}
 use Rattle.std.proofs.lemmas.Option.{slice_get_read, slice_get-map}
 use Rattle.cyclotron_jobs.specs.declared.input.Reply.{Reply}
 use Rattle.cyclotron_jobs.specs.declared.row.Row.{Row}
@@ -6,7 +6,8 @@ use Rattle.cyclotron_jobs.specs.declared.row.JobState.TheVariants.{Available, Ru
 use Rattle.queue_history.specs.Facts.{facts_of}
 use Rattle.queue_history.specs.Rows.{inputs_of}
 use Rattle.queue_history.proofs.Steps.{IsStep-reply}
-use Rattle.cyclotron_core.proofs.Found.{IsLiveRow-from, BeganAt-inside}
+use Rattle.cyclotron_core.specs.Listing.{IsListing}
+use Rattle.cyclotron_core.proofs.Found.{IsLiveRow-from, BeganAt-inside, IsListingBefore-live}
 use Rattle.cyclotron_core.proofs.Rooms.{IsQueue-step_room, IsQueue-refused_room}
 use Rattle.cyclotron_core.proofs.Sound.{set-undone}
 use Rattle.cyclotron_core.proofs.queue.QueueState.flush_reply.Goals as goal
@@ -34,6 +35,11 @@ returns-in-Err-put_reply-clause-err g c =
       spare = omega (arith, c.reserve.ensures.len, c.reserve.ensures.capacity);
     }
 
+pub move_job-requires : goal.move_job-requires
+move_job-requires g c =
+    let live = IsLiveRow-from c.self.view_is c.in-Ok.ensures.found c.in-Ok.ensures.owner c.index_mut-row.result.now c.index_mut-row.ensures.value in
+    IsListingBefore-live _ c.self.invariant.sound.kept c.self.invariant.listed live c.as_slice.ensures.value
+
 pub invariant_of-self-in-Ok-put_reply : goal.invariant_of-self-in-Ok-put_reply
 invariant_of-self-in-Ok-put_reply g c =
     let rows = c.self.inside.rows.items in
@@ -49,7 +55,8 @@ invariant_of-self-in-Ok-put_reply g c =
     rw (c.push_reserved.ensures.items, c.reserve.ensures.items, c.in-Ok-put_reply.ensures.ok, c.in-Ok-put_reply.ensures.twin)
     (IsQueue-step_room c.self.invariant live.read (live.owner, (old.input, input, may))
     (IsStep-reply kept c.in-Ok.at live.read job (sym live.place) c.args.lock live.locked reply fits (λ a course unfinished fits. g.C.Course.goes_on old.input old.replies old.ops old.saved old.shown a reply course unfinished fits))
-    (sym (add-zero _)) (c.in-Ok-put_reply.ensures.put.ok refl) (λ (e : Available ≡ Running). absurd cc))
+    (sym (add-zero _)) (c.in-Ok-put_reply.ensures.put.ok refl) (λ (e : Available ≡ Running). absurd cc)
+    (subst (λ (rows : List Row). IsListing rows c.move_job.new.lists) (c.as_slice.ensures.value ∙ ap (λ (r : Row). set rows c.in-Ok.at r) c.in-Ok-put_reply.ensures.ok) c.move_job.ensures))
 
 pub returns-in-Ok-put_reply-clause-ok : goal.returns-in-Ok-put_reply-clause-ok
 returns-in-Ok-put_reply-clause-ok g c =

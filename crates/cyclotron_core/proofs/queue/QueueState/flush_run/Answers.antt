@@ -1,9 +1,11 @@
-use Rattle.std.proofs.Common.{◌≡◌, ◌<◌, refl, ap, sym, ◌∙◌, arith, add-zero}
+use Rattle.std.proofs.Common.{◌≡◌, ◌<◌, List, set, refl, ap, sym, ◌∙◌, subst, arith, add-zero}
+use Rattle.cyclotron_jobs.specs.declared.row.Row.{Row}
 use Rattle.cyclotron_jobs.specs.Course.{next_of}
 use Rattle.cyclotron_jobs.specs.Leases.{AdvanceOf}
 use Rattle.queue_history.specs.Facts.{facts_of}
 use Rattle.queue_history.proofs.Steps.{IsStep-run}
-use Rattle.cyclotron_core.proofs.Found.{IsLiveRow-from, BeganAt-inside}
+use Rattle.cyclotron_core.specs.Listing.{IsListing}
+use Rattle.cyclotron_core.proofs.Found.{IsLiveRow-from, BeganAt-inside, IsListingBefore-live}
 use Rattle.cyclotron_core.proofs.Rooms.{IsQueue-step, IsQueue-refused, state_after-rests}
 use Rattle.cyclotron_core.proofs.Sound.{set-undone}
 use Rattle.cyclotron_core.proofs.queue.QueueState.flush_run.Goals as goal
@@ -21,6 +23,11 @@ returns-in-Err-put_run-clause-err g c =
       spare = omega (arith, c.reserve.ensures.len, c.reserve.ensures.capacity);
     }
 
+pub move_job-requires : goal.move_job-requires
+move_job-requires g c =
+    let live = IsLiveRow-from c.self.view_is c.in-Ok.ensures.found c.in-Ok.ensures.owner c.index_mut-row.result.now c.index_mut-row.ensures.value in
+    IsListingBefore-live _ c.self.invariant.sound.kept c.self.invariant.listed live c.as_slice.ensures.value
+
 pub invariant_of-self-2 : goal.invariant_of-self-2
 invariant_of-self-2 g c =
     let old = c.index_mut-row.result.now in
@@ -35,7 +42,8 @@ invariant_of-self-2 g c =
     rw (c.push_reserved.ensures.items, c.reserve.ensures.items, c.in-Ok-put_run.ensures.ok, c.kind_of-next.ensures, from, to, after)
     (IsQueue-step c.self.invariant live.read (live.owner, ops, rises)
     (IsStep-run c.self.invariant.sound.kept c.in-Ok.at live.read c.args.lock.job (sym live.place) c.args.lock live.locked c.args.run.from c.args.run.to c.args.run.saved c.args.run.shown c.args.run.after course)
-    (sym (add-zero _)) (c.in-Ok-put_run.ensures.put.ok refl) (λ runs. absurd (state_after-rests (next_of c.args.run.after) runs)))
+    (sym (add-zero _)) (c.in-Ok-put_run.ensures.put.ok refl) (λ runs. absurd (state_after-rests (next_of c.args.run.after) runs))
+    (subst (λ (rows : List Row). IsListing rows c.move_job.new.lists) (c.as_slice.ensures.value ∙ ap (λ (r : Row). set c.self.inside.rows.items c.in-Ok.at r) c.in-Ok-put_run.ensures.ok) c.move_job.ensures))
 
 pub returns-clause-ok : goal.returns-clause-ok
 returns-clause-ok g c =

@@ -10,8 +10,8 @@ invariant_of-result g c =
     let row = c.index-row.result.now in
     let read = HasState-read (HasState-inside c.self.view_is c.requires) row c.index-row.ensures in
     let kept = c.self.invariant.sound.kept in
-    let course : g.C.Course.on_course row.input row.replies row.ops row.saved row.shown (after_of row.asks) = subst (λ (s : JobState). g.C.Course.on_course row.input row.replies row.ops row.saved row.shown (after_in s row.asks)) read.1 (kept.courses c.args.at row read.0) in
-    let asks : AsksOn row.queue row.asks = (kept.each c.args.at row read.0).asks in
+    let course : g.C.Course.on_course row.input row.replies row.ops row.saved row.shown (after_of row.asks) = subst (λ (s : JobState). g.C.Course.on_course row.input row.replies row.ops row.saved row.shown (after_in s row.asks)) read.1 (kept.courses c.args.job row read.0) in
+    let asks : AsksOn row.queue row.asks = (kept.each c.args.job row read.0).asks in
     rw (c.in_ok-copy.ensures, c.in_ok-copy-2.ensures, c.in_ok-copy-3.ensures, c.in_ok-copy_asks.ensures, c.of.ensures) (asks, course)
 
 pub returns : goal.returns
