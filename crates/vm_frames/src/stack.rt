@@ -1,6 +1,6 @@
 //! The values of a machine's stack.
 
-ghost use Rattle.std.specs.Prelude.{◌≡◌, ◌<◌, ◌≤◌, ◌-◌, ℕ, [], ◌∷◌, ◌++◌, All, length, replicate, reverse, slice_range, IsOk, IfOk, IfSome, OnOk, OnErr};
+ghost use Rattle.std.specs.Prelude.{◌≡◌, ◌<◌, ◌≤◌, ◌-◌, ◌^◌, ℕ, [], ◌∷◌, ◌++◌, All, length, replicate, reverse, slice_range, vec_len, vec_capacity, IsOk, IfOk, IfSome, OnOk, OnErr};
 ghost use Rattle.hog_value.specs.Values.{NamesBelow};
 ghost use Rattle.hog_value.specs.declared.value.Value.TheVariants.{Null};
 ghost use Rattle.vm_course.specs.Stack.{value_at, with_value, keep, top_of, taken};
@@ -25,6 +25,19 @@ impl Model for Stack {
     ghost view = { λ s. reverse s.values.items };
 
     ghost invariant = { λ s. length s.values.items < 2 ^ 32 };
+}
+
+/// Makes room for one more value. A stack of 2^32 - 1 values has none, which is answered as want of memory.
+#[inline(never)]
+fn make_room(values: &mut Vec<Value>) -> Result<(), AllocError>
+    ensures same { values.new.items ≡ values.old.items }
+    ensures few { IsOk result → vec_len values.new < 2 ^ 32 - 1 }
+    ensures room { IsOk result → vec_len values.new < vec_capacity values.new }
+{
+    if values.len() >= u32::MAX as usize {
+        return Err(AllocError);
+    }
+    values.reserve(1)
 }
 
 impl Stack {
@@ -101,10 +114,10 @@ impl Stack {
         ensures ok { OnOk result (self.new ≡ v ∷ self.old) }
         ensures err { OnErr result (self.new ≡ self.old) }
     {
-        if self.values.len() >= u32::MAX as usize {
-            return Err(AllocError);
+        if self.values.len() >= self.values.capacity().min(u32::MAX as usize) {
+            make_room(&mut self.values)?;
         }
-        self.values.push(v)?;
+        self.values.push_reserved(v);
         Ok(())
     }
 
