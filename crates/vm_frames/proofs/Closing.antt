@@ -1,18 +1,16 @@
--- Upvalues that are closed, and the numbers of open ones by their places.
-use Rattle.std.proofs.Common.{◌≡◌, ◌<◌, ◌≤◌, ℕ, zero, suc, List, [], ◌∷◌, true, false, cond, length, map, set, Option, Some, None, arith, refl, ap, ap₂, sym, ◌∙◌}
+-- Upvalues that are closed.
+use Rattle.std.proofs.Common.{◌≡◌, ◌<◌, ◌≤◌, ℕ, zero, suc, List, [], ◌∷◌, true, false, cond, map, set, Option, Some, None, arith, refl, ap, ap₂, sym, ◌∙◌}
 use Rattle.std.proofs.lemmas.List.{map-set}
 use Rattle.std.proofs.lemmas.Option.{none-some, slice_get-map}
 use Rattle.std.proofs.lemmas.Bool.Decides.{nat_tests}
 use Rattle.std.specs.Prelude.{slice_get, option_map, nat_lt}
-use Rattle.std.specs.Ordering.{nat_cmp}
-use Rattle.std.specs.Map.{lookup}
-use Rattle.std.specs.BTreeMap.{BTreeMap, get, is_at, btree_map_len}
 use Rattle.hog_value.specs.Values.{Val}
 use Rattle.vm_frames.specs.declared.upvalues.Upvalue as u
 use Rattle.vm_frames.specs.declared.upvalues.Upvalue.TheVariants as up
 use Rattle.vm_course.specs.State.{Upvalue, Opened, Closed}
 use Rattle.vm_course.specs.Stack.{close, value_at, or_null}
-use Rattle.vm_frames.specs.Views.{upvalue_of, IsIndexed}
+use Rattle.vm_frames.specs.Order.{open_in, open_at}
+use Rattle.vm_frames.specs.Views.{upvalue_of}
 
 module _ (height : ℕ) (stack : List Val) where
   close_high : (p : ℕ) → height ≤ p → close height stack (Opened p) ≡ Closed (or_null (value_at stack p))
@@ -39,11 +37,11 @@ module _ (height : ℕ) (stack : List Val) where
   close_kept (Closed v) low = refl
 
   -- where none is open at the height or above it
-  pub close_none : (us : List Upvalue) → ((n p : ℕ) → slice_get us n ≡ Some (Opened p) → p < height) → map (close height stack) us ≡ us
+  close_none : (us : List Upvalue) → ((n p : ℕ) → slice_get us n ≡ Some (Opened p) → p < height) → map (close height stack) us ≡ us
   close_none [] low = refl
   close_none (x ∷ us) low = ap₂ (λ y ys. y ∷ ys) (close_kept x (λ p is. low 0 p (ap Some is))) (close_none us (λ n p is. low (suc n) p is))
 
--- an open upvalue as contracts see it
+-- an open upvalue as contracts see it, and where it is open
 seen_open : (x : u.Upvalue) (p : ℕ) → upvalue_of x ≡ Opened p → x ≡ up.Opened p
 seen_open (up.Opened q) p is = let same : q ≡ p = cc in ap up.Opened same
 seen_open (up.Closed v) p is = absurd cc
@@ -52,34 +50,28 @@ opened_of : (o : Option u.Upvalue) (p : ℕ) → option_map upvalue_of o ≡ Som
 opened_of None p is = absurd (none-some _ is)
 opened_of (Some x) p is = let same : upvalue_of x ≡ Opened p = cc in ap Some (seen_open x p same)
 
-pub listed_open : (us : List u.Upvalue) (n p : ℕ) → slice_get (map upvalue_of us) n ≡ Some (Opened p) → slice_get us n ≡ Some (up.Opened p)
-listed_open us n p is = opened_of (slice_get us n) p (sym (slice_get-map upvalue_of us n) ∙ is)
+open_in-Opened : (o : Option u.Upvalue) (p : ℕ) → open_in o ≡ Some p → o ≡ Some (up.Opened p)
+open_in-Opened None p is = absurd (none-some p is)
+open_in-Opened (Some (up.Opened q)) p is = let same : q ≡ p = cc in ap (λ x. Some (up.Opened x)) same
+open_in-Opened (Some (up.Closed v)) p is = absurd (none-some p is)
 
-pub open_listed : (us : List u.Upvalue) (n p : ℕ) → slice_get us n ≡ Some (up.Opened p) → slice_get (map upvalue_of us) n ≡ Some (Opened p)
-open_listed us n p is = slice_get-map upvalue_of us n ∙ ap (option_map upvalue_of) is
+pub open_at-seen : (us : List u.Upvalue) (n p : ℕ) → open_at us n ≡ Some p → slice_get (map upvalue_of us) n ≡ Some (Opened p)
+open_at-seen us n p is = slice_get-map upvalue_of us n ∙ ap (option_map upvalue_of) (open_in-Opened (slice_get us n) p is)
 
--- one more that is closed
-pub closed_more : (height : ℕ) (stack : List Val) (us : List u.Upvalue) (n p : ℕ) (v : Val) → slice_get us n ≡ Some (up.Opened p) → height ≤ p → v ≡ or_null (value_at stack p)
-    → map (close height stack) (map upvalue_of (set us n (up.Closed v))) ≡ map (close height stack) (map upvalue_of us)
-closed_more height stack us n p v is high same =
-    ap (map (close height stack)) (map-set upvalue_of us n (up.Closed v) ∙ ap (λ x. set (map upvalue_of us) n (Closed x)) same)
-    ∙ close_one height stack (map upvalue_of us) n p (open_listed us n p is) high
+pub seen-open_at : (us : List u.Upvalue) (n p : ℕ) → slice_get (map upvalue_of us) n ≡ Some (Opened p) → open_at us n ≡ Some p
+seen-open_at us n p is = ap open_in (opened_of (slice_get us n) p (sym (slice_get-map upvalue_of us n) ∙ is))
 
--- where no place is at the height or above it, closing changes nothing
-pub none_left : (height : ℕ) (stack : List Val) (us : List u.Upvalue) (before after : BTreeMap ℕ ℕ) → IsIndexed us before → after.entries ≡ before.entries
-    → ((p n : ℕ) → get nat_cmp after p ≡ Some n → p < height) → map upvalue_of us ≡ map (close height stack) (map upvalue_of us)
-none_left height stack us before after indexed same low =
-    sym (close_none height stack (map upvalue_of us) (λ n p is. low p n (ap (lookup (is_at (nat_cmp p))) same ∙ indexed.listed n p (listed_open us n p is))))
+module _ (height : ℕ) (stack : List Val) where
+  -- one more that is closed
+  pub closed_next : (us new : List u.Upvalue) (n p : ℕ) (v : Val) → open_at us n ≡ Some p → height ≤ p → v ≡ or_null (value_at stack p) → new ≡ set us n (up.Closed v)
+      → map (close height stack) (map upvalue_of new) ≡ map (close height stack) (map upvalue_of us)
+  closed_next us new n p v is high same written =
+      ap (map (close height stack)) (ap (map upvalue_of) written ∙ (map-set upvalue_of us n (up.Closed v) ∙ ap (λ x. set (map upvalue_of us) n (Closed x)) same))
+      ∙ close_one height stack (map upvalue_of us) n p (open_at-seen us n p is) high
 
--- without numbers of open ones nothing is open, and closing changes nothing
-pub none_open : (height : ℕ) (stack : List Val) (us : List u.Upvalue) (numbers : BTreeMap ℕ ℕ) → IsIndexed us numbers → btree_map_len numbers ≡ 0
-    → map upvalue_of us ≡ map (close height stack) (map upvalue_of us)
-none_open height stack us numbers indexed empty =
-    none_left height stack us numbers numbers indexed refl (λ p n is. absurd (none-some n (sym (ap (lookup (is_at (nat_cmp p))) (no_entries numbers.entries empty)) ∙ is)))
-  where
-    no_entries : (es : List (ℕ × ℕ)) → length es ≡ 0 → es ≡ []
-    no_entries [] e = refl
-    no_entries (x ∷ xs) e = absurd cc
+  -- where none is open at the height or above it, closing changes nothing
+  pub none_left : (us : List u.Upvalue) → ((n p : ℕ) → open_at us n ≡ Some p → p < height) → map upvalue_of us ≡ map (close height stack) (map upvalue_of us)
+  none_left us low = sym (close_none height stack (map upvalue_of us) (λ n p is. low n p (seen-open_at us n p is)))
 
 -- a closed upvalue as contracts see it
 seen_closed : (x : u.Upvalue) (v : Val) → upvalue_of x ≡ Closed v → x ≡ up.Closed v

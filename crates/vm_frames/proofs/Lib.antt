@@ -3,9 +3,11 @@ mod Named
 mod Taking
 mod Filling
 mod Closing
-mod Indexed
 mod Opening
 mod Listing
+mod Found
+mod OpenLists
+mod Adding
 mod Capturing
 mod Elements
 mod Texts
