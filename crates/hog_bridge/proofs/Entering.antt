@@ -31,7 +31,7 @@ use Rattle.vm_course.specs.State.{Slot, Begins, Frame, State, Upvalue, header, f
 use Rattle.vm_course.specs.Stack.{cut_to, push, top_of, captured_by, capture_all}
 use Rattle.vm_course.specs.Throws.{ends, throw_kind, on_outcome, with_turn}
 use Rattle.vm_course.specs.Step as vm
-use Rattle.vm_course.specs.Step.{step, act, on_with, on_and_push, make_function, with_arguments, call_found, call_value}
+use Rattle.vm_course.specs.Step.{step, act, on_with, on_and_push, make_function, in_place, with_arguments, call_found, call_value}
 use Rattle.hog_bridge.proofs.Words.{Sub, sub_params, sub_same, onto}
 use Rattle.hog_bridge.proofs.Resolved.{sight_of}
 use Rattle.hog_bridge.proofs.Places.{Seat, Temp, Var, place_of, up_of, stack_of, ups_of, Distinct, length-stack, temps, length-temps}
@@ -72,6 +72,10 @@ module _ (g : Given) (n d : ℕ) where
   all_there : (floor k : ℕ) (st : List Val) → floor + k ≤ length st → with_arguments floor k st ≡ st
   all_there floor k st le = let t : nat_le k (length st - floor) ≡ true = grind (arith, nat_tests) in rw t refl
 
+  -- and all of the stack stays in its place
+  all_stay : (floor k : ℕ) (st : List Val) → floor + k ≤ length st → in_place floor k st ≡ st
+  all_stay floor k st le = let t : nat_le k (length st - floor) ≡ true = grind (arith, nat_tests) in rw t refl
+
   entered_is : (c : Ctx) (place behind k : ℕ) (L : List Seat) (vs : List Val) (v : Val) (ps : List Word) (cell : FunCell) (G : Ghost) (w : World) → Framed d c L → Distinct (length w.store) (temps vs L) → length vs ≤ length ps → vm.enter (spot c place behind) (length vs) k cell (length ps) (stack_of w.store (temps vs L)) (at c place (Temp v ∷ temps vs L) G w) ≡ pic (frame cell.place (length L) (Some k) ∷ frame behind c.base c.function ∷ c.frames) (landings c) (temps (pad ps vs) L) G w
   entered_is c place behind k L vs v ps cell G w framed dist le =
       let f = frame place c.base c.function in
@@ -81,12 +85,14 @@ module _ (g : Given) (n d : ℕ) where
       let lv = length-temps vs L in
       let fl = floor_below c L framed in
       let there : with_arguments (floor_in c) j rest ≡ rest = all_there (floor_in c) j rest (omega arith) in
+      let stay : in_place (floor_in c) j rest ≡ rest = all_stay (floor_in c) j rest (omega arith) in
       let base : length rest - j ≡ length L = omega arith in
       let top : replicate (length ps - j) Null ++ rest ≡ stack_of w.store (temps (pad ps vs) L) = sym (stack_pad ps vs w.store L le) in
       let us = ups_over vs (pad ps vs) w.store L G.owners in
       let gs = frame behind c.base c.function ∷ c.frames in
       let goal = pic (frame cell.place (length L) (Some k) ∷ gs) (landings c) (temps (pad ps vs) L) G w in
-      ap (λ xs. record (cut_to rest (at c place (Temp v ∷ temps vs L) G w)) { stack = replicate (length ps - j) Null ++ xs; frames = frame cell.place (length xs - j) (Some k) ∷ gs }) there
+      ap (λ xs. record (cut_to (in_place (floor_in c) j rest) (at c place (Temp v ∷ temps vs L) G w)) { stack = replicate (length ps - j) Null ++ xs; frames = frame cell.place (length xs - j) (Some k) ∷ gs }) there
+      ∙ ap (λ xs. record (cut_to xs (at c place (Temp v ∷ temps vs L) G w)) { stack = replicate (length ps - j) Null ++ rest; frames = frame cell.place (length rest - j) (Some k) ∷ gs }) stay
       ∙ ap (λ (z : State). record z { stack = replicate (length ps - j) Null ++ rest; frames = frame cell.place (length rest - j) (Some k) ∷ gs }) (pop_pic (f ∷ c.frames) (landings c) (Temp v ∷ []) (temps vs L) G w dist)
       ∙ ap (λ b. record (pic (f ∷ c.frames) (landings c) (temps vs L) G w) { stack = replicate (length ps - j) Null ++ rest; frames = frame cell.place b (Some k) ∷ gs }) base
       ∙ ap (λ st. record goal { stack = st; upvalues = ups_of (temps vs L) w.store G.owners }) top

@@ -7,7 +7,7 @@ use Rattle.hog_ops.specs.Plain.{Op, Ops, NoOp, MoreOp, Callable}
 use Rattle.hog_ops.specs.Table.{size, span}
 use Rattle.vm_course.specs.Course.{machine}
 use Rattle.vm_course.specs.Run.{RunState}
-use Rattle.vm_state.specs.Tests.{is_state}
+use Rattle.vm_course.specs.States.{is_state}
 use Rattle.hog_bridge.specs.Laws.{op_operations, operations}
 use Rattle.hog_program.specs.Course.{CourseIsShort}
 use Rattle.hog_jobs.specs.Laws.{FewOperations}

@@ -6,7 +6,7 @@ use Rattle.hog_ops.specs.Valid.{IsCode}
 use Rattle.hog_meaning.specs.World.{Reply}
 use Rattle.vm_course.specs.State.{Running, Waiting, Mode}
 use Rattle.vm_course.specs.Run.{RunState, begun, run_for, resumed}
-use Rattle.vm_state.specs.Tests.{is_state}
+use Rattle.vm_course.specs.States.{is_state}
 use Rattle.hog_program.specs.Program.{HasCode}
 use Rattle.cyclotron_jobs.specs.declared.row.After.TheVariants.{Hog}
 use Rattle.hog_jobs.specs.Course.{IsRunAt, ComesNext}

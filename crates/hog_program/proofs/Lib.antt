@@ -6,4 +6,3 @@ pub mod Spelled
 pub mod Nesting
 pub mod Courses
 pub mod Evaluating
-pub mod SavedSlices

@@ -6,4 +6,3 @@ pub mod Placing
 pub mod Program
 pub mod Course
 pub mod Evaluation
-pub mod Saved

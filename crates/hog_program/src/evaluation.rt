@@ -9,7 +9,7 @@ use hog_ops::Code;
 use hog_value::HogText;
 use hogvm::{Pause, StartStop, Steps};
 use std::alloc::Global;
-use vm_course::laws::{begins_on_course, slices_on_course};
+use vm_course::laws::{begins_on_course, slices_belong, slices_count, slices_on_course};
 use vm_operations::Machine;
 
 /// How many operations are done at a time.
@@ -27,6 +27,8 @@ pub fn evaluate(alloc: Global, code: &Code, globals: &HogText) -> Result<Machine
     course_is_bounded();
     begins_on_course();
     slices_on_course();
+    slices_count();
+    slices_belong();
     let _ops = code.ops();
     let mut machine = Machine::start(alloc, code, globals)?;
     loop {

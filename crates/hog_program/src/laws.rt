@@ -5,7 +5,6 @@ ghost use Rattle.hog_bridge.specs.Laws.{IsNamed};
 ghost use Rattle.hog_tree.specs.Plain.{Stms};
 ghost use Rattle.hog_program.specs.Build.{IsBuilt, IsUnbuilt};
 ghost use Rattle.hog_program.specs.Course.{OneMeaning, CourseShowsMeaning, CourseIsShort};
-ghost use Rattle.hog_program.specs.Saved.{SavedSlicesCompose};
 ghost use Rattle.hog_program.specs.Source.{IsProgram, IsNone, ReadsBack};
 ghost use Rattle.hog_program.specs.declared.stop.BuildStop.{BuildStop};
 
@@ -76,15 +75,4 @@ pub fn course_is_short()
 {
     built_is_named();
     hog_bridge::laws::course_is_bounded();
-}
-
-/// Slices of a run compose over saving and loading: its text after a slice loads, and the machine that was loaded goes on to
-/// where one slice of as many operations leaves it.
-pub fn saved_slices_compose()
-    ensures { SavedSlicesCompose }
-{
-    vm_state::laws::loads_back();
-    vm_state::laws::runs_are_machines();
-    vm_course::laws::slices_compose();
-    vm_course::laws::slices_on_course();
 }

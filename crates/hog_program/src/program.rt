@@ -2,10 +2,8 @@
 
 ghost use Rattle.std.specs.Prelude.{◌≡◌, ◌≢◌, ◌+◌, ◌<◌, ◌≤◌, ◌^◌, IfOk, OnOk, OnErr, IsTrue, true, false, Ok, Err, alloc_error};
 ghost use Rattle.std.specs.Bool.{OnFalse};
-ghost use Rattle.vm_course.specs.State.{Waiting};
 ghost use Rattle.vm_course.specs.Run.{begun, run_for};
 ghost use Rattle.vm_course.specs.Belongs.{belongs};
-ghost use Rattle.vm_operations.specs.Machine.{HasEnded};
 ghost use Rattle.hogvm.specs.Calls.{is_globals, pause_of};
 ghost use Rattle.hog_program.specs.Build.{IsUnbuilt};
 ghost use Rattle.hog_program.specs.Program.{HasCode};
@@ -93,10 +91,6 @@ impl Program {
         requires counted { OnFalse machine.old.spent (machine.old.run.ops + slice < 2 ^ 64) }
         ensures ran { OnOk result (machine.new.run ≡ run_for self.now.code slice machine.old.run) }
         ensures pause { IfOk result (λ p. p ≡ pause_of machine.new.run.state.mode) }
-        ensures all_done { result ≡ Ok Pause.Sliced → machine.new.run.ops ≡ machine.old.run.ops + slice }
-        ensures waits { machine.old.run.state.mode ≡ Waiting → OnOk result (machine.new ≡ machine.old) }
-        ensures rests { HasEnded machine.old.run.state.mode → OnOk result (machine.new ≡ machine.old) }
-        ensures belongs { OnOk result (belongs self.now.code machine.new.run ≡ true) }
         ensures fresh { OnOk result (machine.new.spent ≡ false) }
         ensures spends { OnErr result (IsTrue machine.new.spent) }
         ensures spent { IsTrue machine.old.spent → result ≡ Err alloc_error }

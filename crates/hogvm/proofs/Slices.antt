@@ -9,90 +9,16 @@ use Rattle.hog_ops.specs.Valid.{IsCode}
 use Rattle.vm_course.specs.Course.{literals_of_code}
 use Rattle.vm_course.specs.Belongs.{belongs, places_belong, literals_belong}
 use Rattle.vm_course.specs.Laws.{SlicesCompose, KeepsBelonging}
+use Rattle.vm_course.proofs.Slices.{goes, rests}
 use Rattle.vm_operations.specs.Machine.{MachineView, HasEnded}
 use Rattle.hogvm.specs.declared.steps.Pause.TheVariants.{Sliced, Asks}
 use Rattle.hogvm.specs.Calls.{pause_of}
-
--- a machine that goes on does one
-pub goes : (code : Ops) (n : ℕ) (r : RunState) → r.state.mode ≡ Running → run_for code (suc n) r ≡ run_for code n (one_more code r)
-goes code n r e = ap (λ m. where_running m (run_for code n (one_more code r)) r) e
-
--- one that doesn't, does none
-pub rests : (code : Ops) (n : ℕ) (r : RunState) → (r.state.mode ≡ Running → ⊥) → run_for code n r ≡ r
-rests code zero r still = refl
-rests code (suc n) r still = by_mode r.state.mode refl
-  where
-    by_mode : (m : Mode) → r.state.mode ≡ m → run_for code (suc n) r ≡ r
-    by_mode Running e = absurd (still e)
-    by_mode Waiting e = ap (λ x. where_running x (run_for code n (one_more code r)) r) e
-    by_mode (Ended end) e = ap (λ x. where_running x (run_for code n (one_more code r)) r) e
-
--- how many operations a slice does
-pub least : (code : Ops) (n : ℕ) (r : RunState) → r.ops ≤ (run_for code n r).ops
-least code zero r = omega arith
-least code (suc n) r = by_mode r.state.mode (least code n (one_more code r))
-  where
-    by_mode : (m : Mode) → r.ops + 1 ≤ (run_for code n (one_more code r)).ops → r.ops ≤ (where_running m (run_for code n (one_more code r)) r).ops
-    by_mode Running more = omega arith
-    by_mode Waiting more = omega arith
-    by_mode (Ended e) more = omega arith
-
-pub most : (code : Ops) (n : ℕ) (r : RunState) → (run_for code n r).ops ≤ r.ops + n
-most code zero r = omega arith
-most code (suc n) r = by_mode r.state.mode (most code n (one_more code r))
-  where
-    by_mode : (m : Mode) → (run_for code n (one_more code r)).ops ≤ r.ops + 1 + n → (where_running m (run_for code n (one_more code r)) r).ops ≤ r.ops + suc n
-    by_mode Running more = omega arith
-    by_mode Waiting more = omega arith
-    by_mode (Ended e) more = omega arith
-
--- none of which takes a reply in
-pub used_still : (code : Ops) (n : ℕ) (r : RunState) → (run_for code n r).used ≡ r.used
-used_still code zero r = refl
-used_still code (suc n) r = by_mode r.state.mode (used_still code n (one_more code r))
-  where
-    by_mode : (m : Mode) → (run_for code n (one_more code r)).used ≡ r.used → (where_running m (run_for code n (one_more code r)) r).used ≡ r.used
-    by_mode Running is = is
-    by_mode Waiting is = refl
-    by_mode (Ended e) is = refl
 
 -- a reply that is taken in is one more at most
 pub used_most : (m : Mode) (n : ℕ) → where_running m (n + 1) n ≤ n + 1
 used_most Running n = omega arith
 used_most Waiting n = omega arith
 used_most (Ended e) n = omega arith
-
--- all of them where the machine goes on
-pub all_done : (code : Ops) (n : ℕ) (r : RunState) → (run_for code n r).state.mode ≡ Running → (run_for code n r).ops ≡ r.ops + n
-all_done code zero r runs = omega arith
-all_done code (suc n) r runs = by_mode r.state.mode refl (all_done code n (one_more code r)) runs
-  where
-    by_mode : (m : Mode) → r.state.mode ≡ m → ((run_for code n (one_more code r)).state.mode ≡ Running → (run_for code n (one_more code r)).ops ≡ r.ops + 1 + n)
-        → (where_running m (run_for code n (one_more code r)) r).state.mode ≡ Running → (where_running m (run_for code n (one_more code r)) r).ops ≡ r.ops + suc n
-    by_mode Running is more still = let all = more still in omega arith
-    by_mode Waiting is more still = let no : Waiting ≡ Running = sym is ∙ still in absurd cc
-    by_mode (Ended e) is more still = let no : Ended e ≡ Running = sym is ∙ still in absurd cc
-
--- and one at least, where it goes on to begin with
-pub some_done : (code : Ops) (n : ℕ) (r : RunState) → 1 ≤ n → r.state.mode ≡ Running → r.ops < (run_for code n r).ops
-some_done code zero r some runs = absurd (omega arith)
-some_done code (suc n) r some runs = let more = least code n (one_more code r) in let is = ap (λ (x : RunState). x.ops) (goes code n r runs) in omega arith
-
-pub ended_still : (m : Mode) → HasEnded m → m ≡ Running → ⊥
-ended_still Running h e = h
-ended_still Waiting h e = h
-ended_still (Ended x) h e = cc
-
--- how a slice ends, as a mode
-pub running_if : (m : Mode) → pause_of m ≡ Sliced → m ≡ Running
-running_if Running e = refl
-running_if Waiting e = absurd cc
-running_if (Ended x) e = absurd cc
-
-pub waiting_if : (m : Mode) → pause_of m ≡ Asks → m ≡ Waiting
-waiting_if Running e = absurd cc
-waiting_if Waiting e = refl
-waiting_if (Ended x) e = absurd cc
 
 -- after so many operations, one more
 pub one_on : SlicesCompose → (code : Ops) (i : ℕ) (r0 r : RunState) → r ≡ run_for code i r0 → r.state.mode ≡ Running → one_more code r ≡ run_for code (i + 1) r0

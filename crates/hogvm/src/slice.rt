@@ -37,7 +37,6 @@ pub(crate) fn go(
     requires counted { machine.old.run.ops + slice < 2 ^ 64 }
     ensures ran { OnOk result (machine.new.run ≡ run_for code.now slice machine.old.run) }
     ensures fresh { OnOk result (machine.new.spent ≡ false) }
-    ensures belongs { OnOk result (belongs code.now machine.new.run ≡ true) }
 {
     if !machine.goes_on() {
         return Ok(());

@@ -47,10 +47,10 @@ pub trait Steps: Sized {
     ghost use Rattle.std.specs.Prelude.{◌≡◌, ◌+◌, ◌<◌, ◌≤◌, ◌^◌, true, false, IsTrue, IfOk, OnOk, OnErr, alloc_error};
     ghost use Rattle.std.specs.Bool.{OnFalse};
     ghost use Rattle.hog_ops.specs.Plain.{Ops};
-    ghost use Rattle.vm_course.specs.State.{Running, Waiting};
+    ghost use Rattle.vm_course.specs.State.{Waiting};
     ghost use Rattle.vm_course.specs.Run.{begun, run_for, resumed};
     ghost use Rattle.vm_course.specs.Belongs.{belongs};
-    ghost use Rattle.vm_operations.specs.Machine.{MachineView, HasEnded};
+    ghost use Rattle.vm_operations.specs.Machine.{MachineView};
     ghost use Rattle.hogvm.specs.Calls.{is_globals, pause_of};
 
     /// The run of the machine, and whether it is spent.
@@ -66,22 +66,14 @@ pub trait Steps: Sized {
         ensures not_an_object { result ≡ Err StartStop.NotAnObject → is_globals globals.now ≡ false };
 
     /// At most `slice` operations, at least 1; fewer where the machine waits or ends, and none where it does so already. The
-    /// machine belongs to the code, and at most 2^64 - 1 operations are counted.
+    /// machine belongs to the code, and at most 2^64 - 1 operations are counted. How many operations that are, and that the
+    /// machine belongs to the code then, are laws of runs (`slices_count` and `slices_belong` of vm_course).
     fn run(&mut self, alloc: Global, code: &Code, slice: u32) -> Result<Pause, AllocError>
         requires some { 1 ≤ slice }
         requires belongs { OnFalse (held self.old).spent (belongs code.now (held self.old).run ≡ true) }
         requires counted { OnFalse (held self.old).spent ((held self.old).run.ops + slice < 2 ^ 64) }
         ensures ran { OnOk result ((held self.new).run ≡ run_for code.now slice (held self.old).run) }
         ensures pause { IfOk result (λ p. p ≡ pause_of (held self.new).run.state.mode) }
-        ensures asks { result ≡ Ok Pause.Asks → (held self.new).run.state.mode ≡ Waiting }
-        ensures all_done { result ≡ Ok Pause.Sliced → (held self.new).run.ops ≡ (held self.old).run.ops + slice }
-        ensures at_most { OnOk result ((held self.new).run.ops ≤ (held self.old).run.ops + slice) }
-        ensures goes_on { (held self.old).run.state.mode ≡ Running
-            → OnOk result ((held self.old).run.ops < (held self.new).run.ops) }
-        ensures replies { OnOk result ((held self.new).run.used ≡ (held self.old).run.used) }
-        ensures waits { (held self.old).run.state.mode ≡ Waiting → OnOk result (held self.new ≡ held self.old) }
-        ensures rests { HasEnded (held self.old).run.state.mode → OnOk result (held self.new ≡ held self.old) }
-        ensures belongs { OnOk result (belongs code.now (held self.new).run ≡ true) }
         ensures fresh { OnOk result ((held self.new).spent ≡ false) }
         ensures spends { OnErr result (IsTrue (held self.new).spent) }
         ensures spent { IsTrue (held self.old).spent → result ≡ Err alloc_error }

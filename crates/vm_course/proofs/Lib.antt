@@ -1,8 +1,8 @@
-mod Slices
+pub mod Slices
 mod CodesFit
 mod CodesHeaps
 mod CodesMoves
 mod CodesGrow
 pub mod CodesBelong
-mod OnCourseReplies
+pub mod OnCourseReplies
 pub mod OnCourseRuns

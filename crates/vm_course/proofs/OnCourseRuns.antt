@@ -176,6 +176,11 @@ none_taken (op.Gives v h units) s un none = refl
 none_taken (op.Throws kind) s un none = absurd un
 none_taken op.Spends s un none = none
 
+-- taking in the only reply leaves none to come
+pub reply_leaves : (reply : Reply) (s : State) → s.replies ≡ [] → (take_reply (reply ∷ []) s).replies ≡ []
+reply_leaves reply s none =
+    none_taken (response reply.status reply.body s.heap s.units) s (response_unthrown reply.status reply.body s.heap s.units) none
+
 first_left : (replies : List Reply) (used : ℕ) (reply : Reply) → slice_get replies used ≡ Some reply → drop used replies ≡ reply ∷ drop (used + 1) replies
 first_left [] used reply e = absurd cc
 first_left (x ∷ xs) zero reply e = let same : x ≡ reply = cc in ap (λ y. y ∷ xs) same

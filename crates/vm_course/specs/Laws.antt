@@ -1,10 +1,10 @@
 -- What the laws of codes and runs say.
-use Rattle.std.specs.Prelude.{◌≡◌, ℕ, ◌+◌, ◌≤◌, List, length, true, Some, slice_get}
+use Rattle.std.specs.Prelude.{◌≡◌, ℕ, ◌+◌, ◌≤◌, ◌<◌, List, length, true, Some, slice_get}
 use Rattle.hog_ops.specs.Plain.{Op, Ops}
 use Rattle.hog_ops.specs.Table.{size, span}
 use Rattle.hog_ops.specs.Valid.{IsCode}
 use Rattle.hog_meaning.specs.World.{Fixed, Reply}
-use Rattle.vm_course.specs.State.{Slot, Begins, code_slots, Waiting, State}
+use Rattle.vm_course.specs.State.{Slot, Begins, code_slots, Running, Waiting, State}
 use Rattle.vm_course.specs.Step.{step}
 use Rattle.vm_course.specs.Run.{RunState, begun, one_more, run_for, resumed, IsRunOf}
 use Rattle.vm_course.specs.Belongs.{belongs}
@@ -13,6 +13,18 @@ use Rattle.vm_course.specs.Fits.{OpFits}
 -- two slices leave what one of as many operations leaves
 abbrev pub SlicesCompose : Type 0
 SlicesCompose = (code : Ops) (a b : ℕ) (r : RunState) → run_for code (a + b) r ≡ run_for code b (run_for code a r)
+
+-- How many operations a slice does: all of them where the run goes on behind it, and one at least where it goes on before. It
+-- takes in no reply, and where the run doesn't go on it changes nothing.
+pub record SliceCounts (code : Ops) (n : ℕ) (r : RunState) : Type 0 where
+  pub at_most : (run_for code n r).ops ≤ r.ops + n
+  pub all_done : (run_for code n r).state.mode ≡ Running → (run_for code n r).ops ≡ r.ops + n
+  pub goes_on : 1 ≤ n → r.state.mode ≡ Running → r.ops < (run_for code n r).ops
+  pub used : (run_for code n r).used ≡ r.used
+  pub rests : (r.state.mode ≡ Running → ⊥) → run_for code n r ≡ r
+
+abbrev pub SlicesCount : Type 0
+SlicesCount = (code : Ops) (n : ℕ) (r : RunState) → SliceCounts code n r
 
 -- each operation of a code fits, and a code has as many places as elements, and the two of its header
 abbrev pub CodesFit : Type 0

@@ -5,6 +5,7 @@ pub mod Step
 pub mod Course
 pub mod Run
 pub mod Belongs
+pub mod States
 pub mod Fits
 pub mod Laws
 pub mod Examples

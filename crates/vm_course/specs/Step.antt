@@ -116,11 +116,18 @@ with_arguments floor n stack =
     let there = length stack - floor in
     if nat_le n there then stack else slice_range stack 0 there ++ (replicate (n - there) Null ++ keep floor stack)
 
--- The function is taken off alone; its arguments are the callee's first locals, and parameters without one are null.
+-- what stays on the stack in a call: where the arguments are all there all of it, and where some are missing what is under
+-- the operands
+abbrev pub in_place : ℕ → ℕ → List Val → List Val
+in_place floor n stack = if nat_le n (length stack - floor) then stack else keep floor stack
+
+-- The function is taken off. Its arguments are the callee's first locals, and parameters without one are null. Arguments
+-- that are all there stay where they are, with what is open at their places; where some are missing the operands are taken
+-- off, which closes what is open at their places, and then they are put on again.
 abbrev pub enter : Here → ℕ → ℕ → FunCell → ℕ → List Val → State → State
 enter here n cell f params rest s =
     let arguments = with_arguments here.floor n rest in
-    let there : State = cut_to rest s in
+    let there : State = cut_to (in_place here.floor n rest) s in
     record there {
       stack = replicate (params - n) Null ++ arguments;
       frames = record { place = f.place; base = length arguments - n; function = Some cell } ∷ record here.frame { place = here.behind } ∷ here.around;

@@ -1,10 +1,15 @@
 //! Laws of codes and of runs.
 
-ghost use Rattle.vm_course.specs.Laws.{SlicesCompose, CodesFit, CodesCount, HeapGrows, BeginsBelonging, KeepsBelonging, SlicesBelong, RepliesBelong, BeginsOnCourse, SlicesOnCourse, RepliesOnCourse};
+ghost use Rattle.vm_course.specs.Laws.{SlicesCompose, SlicesCount, CodesFit, CodesCount, HeapGrows, BeginsBelonging, KeepsBelonging, SlicesBelong, RepliesBelong, BeginsOnCourse, SlicesOnCourse, RepliesOnCourse};
 
 /// Two slices, one after the other, leave what one slice of as many operations leaves.
 pub fn slices_compose()
     ensures { SlicesCompose }
+{}
+
+/// How many operations a slice does, that it takes in no reply, and that it changes nothing where the run doesn't go on.
+pub fn slices_count()
+    ensures { SlicesCount }
 {}
 
 /// Each operation that stands at a place of a code fits: its end is a place, where it leads is one, and its operands are

@@ -1,5 +1,5 @@
 -- Calls of functions.
-use Rattle.std.proofs.Common.{◌≡◌, ◌≤◌, ◌<◌, ◌+◌, ◌-◌, [], ◌∷◌, ◌++◌, ℕ, List, length, true, false, cond, Option, Some, None, arith, refl, ap, ap₂, sym, ◌∙◌}
+use Rattle.std.proofs.Common.{◌≡◌, ◌≤◌, ◌<◌, ◌+◌, ◌-◌, [], ◌∷◌, ◌++◌, ℕ, List, length, map, true, false, cond, Option, Some, None, arith, refl, ap, ap₂, sym, ◌∙◌}
 use Rattle.std.proofs.lemmas.Bool.Decides.{nat_tests}
 use Rattle.std.specs.Prelude.{nat_lt, replicate, option_map, unwrap_or}
 use Rattle.hog_value.specs.declared.cell.FunCell.{FunCell}
@@ -9,10 +9,10 @@ use Rattle.hog_value.specs.declared.value.Value.TheVariants.{Null, Bool as Truth
 use Rattle.hog_value.specs.Values.{Val}
 use Rattle.hog_value.specs.Meters.{max_turns, max_depth}
 use Rattle.vm_course.specs.State.{Slot, Frame, State, params_at}
-use Rattle.vm_course.specs.Throws.{ends, throw_kind, with_turn}
-use Rattle.vm_course.specs.Step.{Here, on_with, with_arguments, enter, call_function, call_found, call_value}
-use Rattle.vm_course.specs.Stack.{keep, floor_of}
-use Rattle.vm_frames.specs.Parts.{innermost}
+use Rattle.vm_course.specs.Throws.{ends, goto, throw_kind, with_turn}
+use Rattle.vm_course.specs.Step.{Here, in_place, with_arguments, enter, call_function, call_found, call_value}
+use Rattle.vm_course.specs.Stack.{keep, close, floor_of}
+use Rattle.vm_frames.specs.Parts.{innermost, others_of}
 use Rattle.vm_operations.specs.Here.{here_of}
 use Rattle.vm_operations.specs.Calls.{callee_of, callee_in}
 use Rattle.vm_operations.specs.declared.calls.Callee.{Callee}
@@ -89,17 +89,26 @@ module _ (s : State) (b n cell : ℕ) (f : FunCell) (params rest : ℕ) where
   frame_of : ℕ → ℕ → ℕ → Frame
   frame_of place base cell = record { place = place; base = base; function = Some cell }
 
-  pub enter_is : (floor base place : ℕ) (s1 s2 s3 : State) → f.place ≡ place → floor ≡ floor_of (innermost s.frames) s → s1 ≡ on_with (here_of b s) (keep rest s.stack) s
-      → s2 ≡ record s1 { stack = replicate (params - n) Null ++ with_arguments floor n s1.stack } → base ≡ length (with_arguments floor n s1.stack) - n
-      → s3 ≡ record s2 { frames = record { place = place; base = base; function = Some cell } ∷ s2.frames }
-      → s3 ≡ enter (here_of b s) n cell f params (keep rest s.stack) s
-  unfolding frame_of
-  enter_is floor base place s1 s2 s3 there ground first second based third =
+  -- so much of the stack is left, and what is open at a height or above it is closed
+  taken_off : ℕ → State
+  taken_off height = record s { stack = keep rest s.stack; upvalues = map (close height s.stack) s.upvalues }
+
+  pub enter_is : (floor height base place : ℕ) (s1 s2 s3 s4 : State) → f.place ≡ place → floor ≡ floor_of (innermost s.frames) s
+      → height ≡ length (in_place floor n (keep rest s.stack)) → s1 ≡ record s { stack = keep rest s.stack; upvalues = map (close height s.stack) s.upvalues }
+      → s2 ≡ goto b (innermost s1.frames) (others_of s1.frames) s1
+      → s3 ≡ record s2 { stack = replicate (params - n) Null ++ with_arguments floor n s2.stack } → base ≡ length (with_arguments floor n s2.stack) - n
+      → s4 ≡ record s3 { frames = record { place = place; base = base; function = Some cell } ∷ s3.frames }
+      → s4 ≡ enter (here_of b s) n cell f params (keep rest s.stack) s
+  unfolding frame_of taken_off
+  enter_is floor height base place s1 s2 s3 s4 there ground high first second third based fourth =
+      let gone : State → State = λ x. goto b (innermost x.frames) (others_of x.frames) x in
       let filled : ℕ → State → State = λ g x. record x { stack = replicate (params - n) Null ++ with_arguments g n x.stack } in
       let based_on : ℕ → State → ℕ = λ g x. length (with_arguments g n x.stack) - n in
       let framed : ℕ → ℕ → State → State = λ p at x. record x { frames = frame_of p at cell ∷ x.frames } in
-      third
-      ∙ ap (framed place base) second
-      ∙ ap (λ at. framed place at (filled floor s1)) based
-      ∙ ap (λ (x : State). framed place (based_on floor x) (filled floor x)) first
-      ∙ ap₂ (λ g p. framed p (based_on g (on_with (here_of b s) (keep rest s.stack) s)) (filled g (on_with (here_of b s) (keep rest s.stack) s))) ground (sym there)
+      fourth
+      ∙ ap (framed place base) third
+      ∙ ap (λ at. framed place at (filled floor s2)) based
+      ∙ ap (λ (x : State). framed place (based_on floor x) (filled floor x)) second
+      ∙ ap (λ (x : State). framed place (based_on floor (gone x)) (filled floor (gone x))) first
+      ∙ ap (λ h. framed place (based_on floor (gone (taken_off h))) (filled floor (gone (taken_off h)))) high
+      ∙ ap₂ (λ g p. let x = gone (taken_off (length (in_place g n (keep rest s.stack)))) in framed p (based_on g x) (filled g x)) ground (sym there)

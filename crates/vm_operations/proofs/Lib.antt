@@ -10,3 +10,4 @@ mod Making
 mod Calling
 mod Waits
 mod Standing
+pub mod Passing

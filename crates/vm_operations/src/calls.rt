@@ -1,16 +1,16 @@
 //! Calls of functions.
 
-ghost use Rattle.std.specs.Prelude.{◌≡◌, ◌<◌, ◌≤◌, ◌-◌, ◌++◌, ◌∷◌, Some, length, replicate, nat_lt, if◌then◌else◌, IfOk, OnOk};
+ghost use Rattle.std.specs.Prelude.{◌≡◌, ◌<◌, ◌≤◌, ◌-◌, ◌++◌, ◌∷◌, List, Some, length, map, replicate, nat_lt, if◌then◌else◌, IfOk, OnOk};
 ghost use Rattle.hog_value.specs.declared.trace.End.TheVariants.{TooDeep as EndsTooDeep, TurnsSpent as EndsTurnsSpent};
 ghost use Rattle.hog_value.specs.declared.value.Value.TheVariants.{Null as NoValue};
 ghost use Rattle.hog_value.specs.declared.cell.FunCell.{FunCell as FunctionCell};
 ghost use Rattle.hog_value.specs.Meters.{max_turns, max_depth};
-ghost use Rattle.hog_value.specs.Values.{NamesBelow};
+ghost use Rattle.hog_value.specs.Values.{Val, NamesBelow};
 ghost use Rattle.hog_meaning.specs.World.{Fixed};
 ghost use Rattle.hog_ops.specs.Plain as o;
-ghost use Rattle.vm_course.specs.Stack.{keep};
+ghost use Rattle.vm_course.specs.Stack.{keep, close};
 ghost use Rattle.vm_course.specs.Throws.{ends};
-ghost use Rattle.vm_course.specs.Step.{act, call_function, enter, with_arguments};
+ghost use Rattle.vm_course.specs.Step.{act, call_function, enter, in_place, with_arguments};
 ghost use Rattle.vm_frames.specs.Parts.{others_of};
 ghost use Rattle.vm_operations.specs.Here.{here_of};
 ghost use Rattle.vm_operations.specs.Calls.{callee_in};
@@ -27,6 +27,18 @@ use vm_frames::table::Table;
 pub(crate) struct Callee {
     pub(crate) cell: u32,
     pub(crate) place: u32,
+}
+
+/// How much of a stack of `len` values stays in its place in a call with so many arguments: all of it where they are there,
+/// and what is under the operands where some are missing. Takes no memory.
+fn height_in_place(floor: u32, n: u32, len: u32) -> u32
+    ensures { (stack : List Val) → length stack ≡ len → result ≡ length (in_place floor n stack) }
+{
+    if n <= len.saturating_sub(floor) {
+        len
+    } else {
+        floor.min(len)
+    }
 }
 
 impl State {
@@ -128,9 +140,23 @@ impl State {
             → OnOk result (self.new ≡ enter (here_of behind self.old) n callee.cell f params (keep rest self.old.stack) self.old) }
     {
         let floor = self.floor();
-        self.go_on(behind, rest);
+        self.cut_from(height_in_place(floor, n, rest), rest);
+        self.go_to(behind);
         let base = self.take_arguments(alloc, floor, n, params)?;
         self.enter_frame(callee, base)
+    }
+
+    /// Cuts the stack to its lowest `len` values, and closes the upvalues of those at a height or above it. Takes no memory.
+    fn cut_from(&mut self, height: u32, len: u32)
+        ensures { self.new ≡ record self.old { stack = keep len self.old.stack; upvalues = map (close height self.old.stack) self.old.upvalues } }
+    {
+        let State {
+            stack,
+            upvalues,
+            ..
+        } = self;
+        upvalues.close(height, stack);
+        stack.keep(len);
     }
 
     /// The arguments of a call become the first locals of its frame: of so many parameters those without one are null. Where

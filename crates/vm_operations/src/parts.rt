@@ -1,10 +1,9 @@
 //! The parts of a machine, lent to be saved, and the machine of such parts.
 
-ghost use Rattle.std.specs.Prelude.{◌≡◌, ◌∷◌, ◌<◌, ◌^◌, [], false, map, length, reverse};
+ghost use Rattle.std.specs.Prelude.{◌≡◌, ◌∷◌, ◌<◌, ◌^◌, [], true, false, map, length, reverse};
 ghost use Rattle.vm_frames.specs.Views.{upvalue_of};
 ghost use Rattle.vm_frames.specs.Parts.{others_of};
-ghost use Rattle.vm_operations.specs.Here.{IsFit};
-ghost use Rattle.vm_operations.specs.Machine.{IsStanding};
+ghost use Rattle.vm_course.specs.States.{is_state};
 ghost use Rattle.vm_operations.specs.Parts.{run_of};
 
 use crate::machine::Machine;
@@ -30,10 +29,9 @@ pub struct Parts {
 }
 
 impl Machine {
-    /// The machine of these parts. Takes no memory.
+    /// The machine of these parts, which are those of a state. Takes no memory.
     pub fn from_parts(p: Parts) -> Machine
-        requires fit { IsFit (run_of p).state }
-        requires standing { IsStanding (run_of p) }
+        requires { is_state (run_of p) ≡ true }
         ensures run { result.run ≡ run_of p }
         ensures fresh { result.spent ≡ false }
     {

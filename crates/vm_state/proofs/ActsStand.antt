@@ -34,9 +34,9 @@ use Rattle.hog_meaning.specs.Meaning.{place_in, most_requests, is_request, is_fe
 use Rattle.vm_course.specs.State.{Slot, Begins, BodyEnds, Operand, Upvalue, Opened, Closed, Frame, ThrowFrame, Running, Waiting, Ended, Mode, State, header, function_at, params_at}
 use Rattle.vm_course.specs.Stack.{keep, push, cut_to, height_of, floor_of, top_of, taken, captured_by, capture_all, write_to, write_numbered}
 use Rattle.vm_course.specs.Throws.{ends, with_heap, goto, throw_kind, on_result, on_outcome, with_turn}
-use Rattle.vm_course.specs.Step.{Here, on_with, on_and_push, place_at, jump, jump_or_back, in_pairs, with_arguments, enter, get_global, of_native, call_global, call_function, call_found, call_value, throws_around, without_try, give_back, make_function, act, at_slot, here_at, in_frames, take_reply, step_in, step, property_path, global_of, spent_by, with_spent, said, binary}
+use Rattle.vm_course.specs.Step.{Here, on_with, on_and_push, place_at, jump, jump_or_back, in_pairs, in_place, with_arguments, enter, get_global, of_native, call_global, call_function, call_found, call_value, throws_around, without_try, give_back, make_function, act, at_slot, here_at, in_frames, take_reply, step_in, step, property_path, global_of, spent_by, with_spent, said, binary}
 use Rattle.vm_course.specs.Course.{steps}
-use Rattle.vm_state.specs.Tests.{ends_with_request}
+use Rattle.vm_course.specs.States.{ends_with_request}
 use Rattle.vm_state.proofs.Alls.{all_append, all_back, all_drop, all_take, all_replicate}
 use Rattle.vm_state.proofs.HeapsStand.{HeapStands, all_names_more, upvalues_more, Stands, Named, made_stands, response_stands}
 use Rattle.vm_state.proofs.NativesStand.{CallStands, called_stands}
@@ -121,6 +121,21 @@ arguments_stand n floor count rest h le = go (nat_le count (length rest - floor)
           counted = omega (arith, long, many, le);
           longer = omega (arith, long, many, le);
         }
+
+-- what stays on the stack in a call
+record InPlace (n floor : ℕ) (rest stays : List Val) : Type 0 where
+  named : AllByRecursion (NamesBelow n) stays
+  enough : floor ≤ length stays
+  shorter : length stays ≤ length rest
+
+in_place_stands : (n floor count : ℕ) (rest : List Val) → AllByRecursion (NamesBelow n) rest → floor ≤ length rest → InPlace n floor rest (in_place floor count rest)
+in_place_stands n floor count rest h le = go (nat_le count (length rest - floor))
+  where
+    go : (b : Bool) → InPlace n floor rest (cond b rest (keep floor rest))
+    go true = record { named = h; enough = le; shorter = omega arith }
+    go false =
+        let k = length-keep floor rest le in
+        record { named = all_drop (NamesBelow n) (length rest - floor) rest h; enough = omega (arith, k); shorter = omega (arith, k, le) }
 
 -- traces
 
@@ -414,11 +429,15 @@ module _ (fixed : Fixed) where
         let more = length-append (replicate (params - n) Null) args in
         let is = floor_is behind f fs s e st in
         let c = calls behind f fs s e st in
-        let cut = cut_stands fixed s rest s.frames s.throws st named
-        (subst (λ gs. CallsStand s.heap gs (length rest) s.throws) (sym e) (calls_at s.heap f.base f.function fs (length s.stack) (length rest) s.throws c (omega (arith, le, is)))) st.deep in
-        stacked_stands fixed (cut_to rest s) stack ks cut
+        let stays : List Val = in_place (floor_of f s) n rest in
+        let p = in_place_stands (length s.heap) (floor_of f s) n rest named le in
+        let enough = p.enough in
+        let shorter = p.shorter in
+        let cut = cut_stands fixed s stays s.frames s.throws st p.named
+        (subst (λ gs. CallsStand s.heap gs (length stays) s.throws) (sym e) (calls_at s.heap f.base f.function fs (length s.stack) (length stays) s.throws c (omega (arith, enough, is)))) st.deep in
+        stacked_stands fixed (cut_to stays s) stack ks cut
         (all_append (NamesBelow (length s.heap)) (replicate (params - n) Null) args (all_replicate (NamesBelow (length s.heap)) (params - n) Null tt) a.named)
-        (omega (arith, longer, more))
+        (omega (arith, shorter, longer, more))
         (calls_entered s.heap cell base (record f { place = behind }) fs (length s.stack) (length stack) s.throws c (omega (arith, counted, is)) (omega (arith, more)) there)
         (omega (arith, room))
 
@@ -523,7 +542,7 @@ module _ (fixed : Fixed) where
   frames_stand code [] s e running st = st
   frames_stand code (f ∷ fs) s e running st = slot_stands code (slice_get code f.place) f fs s e running st
 
-  reply_stands : (rs : List Reply) (s : State) → Stand fixed s → Stand fixed (take_reply rs s)
+  pub reply_stands : (rs : List Reply) (s : State) → Stand fixed s → Stand fixed (take_reply rs s)
   reply_stands [] s st = st
   reply_stands (r ∷ rs) s st =
       outcome_stands fixed Named (response r.status r.body s.heap s.units) (λ v s1. push v (record s1 { replies = rs; mode = Running })) s st (response_stands (length s.upvalues) r.status r.body s.heap s.units st.heap)

@@ -15,7 +15,8 @@ use Rattle.vm_course.specs.State.{State}
 use Rattle.vm_course.specs.Run.{RunState}
 use Rattle.vm_state.specs.declared.parts.Format.{Format}
 use Rattle.vm_state.specs.declared.parts.Format.TheVariants.{First, Second}
-use Rattle.vm_state.specs.Saved.{Written, requests_in}
+use Rattle.vm_course.specs.States.{requests_in}
+use Rattle.vm_state.specs.Saved.{Written}
 use Rattle.vm_state.specs.Layout.{Counts, counts_in, Calls, calls_in, Held, held_in, lists_in, rest_in, rest_data, written_in, written_in_list, elements_of, saved_data}
 use Rattle.vm_state.specs.Laws.{SavedFits}
 

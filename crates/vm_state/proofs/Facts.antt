@@ -13,27 +13,10 @@ use Rattle.state_forms.specs.Values.{CellFits}
 use Rattle.vm_course.specs.State.{Upvalue, Opened, Closed}
 use Rattle.vm_course.specs.Stack.{one_on, find_open}
 use Rattle.vm_frames.specs.Parts.{ClosedBelow, places_differ}
-use Rattle.vm_state.specs.Tests.{names, cell_stands, upvalues_stand}
-
-pub both : (a b : Bool) → (a && b) ≡ true → (a ≡ true) × (b ≡ true)
-both true true e = (refl, refl)
-both true false e = absurd cc
-both false b e = absurd cc
-
-pub all_from : {A : Type 0} (p : A → Bool) (P : A → Type 0) → ((x : A) → p x ≡ true → P x) → (xs : List A) → list_all p xs ≡ true → AllByRecursion P xs
-all_from p P f [] h = tt
-all_from p P f (x ∷ xs) h = let b = both (p x) (list_all p xs) h in (f x b.0, all_from p P f xs b.1)
-
-below : (a b : ℕ) → nat_lt a b ≡ true → a < b
-below a b h = grind (arith, nat_tests)
+use Rattle.vm_course.specs.States.{names, cell_stands, upvalues_stand}
+use Rattle.vm_operations.proofs.Passing.{both, all_from, names_below}
 
 -- values and cells
-
-pub names_below : (n : ℕ) (v : Val) → names n v ≡ true → NamesBelow n v
-names_below n Null h = tt
-names_below n (Truth b) h = tt
-names_below n (Int z) h = tt
-names_below n (Ref r) h = below r n h
 
 pub values_below : (n : ℕ) (vs : List Val) → list_all (names n) vs ≡ true → All (NamesBelow n) vs
 values_below n vs h = All-from_recursion (NamesBelow n) vs (all_from (names n) (NamesBelow n) (names_below n) vs h)
@@ -62,14 +45,6 @@ distinct_by h all = All-from_recursion HasDistinctKeys h (all_keys_apart h all)
 
 -- upvalues
 
-taken_below : (n height : ℕ) (taken : List ℕ) (us : List Upvalue) → upvalues_stand n height taken us ≡ true → AllByRecursion (ClosedBelow n) us
-taken_below n height taken [] h = tt
-taken_below n height taken (Opened p ∷ us) h = (tt, taken_below n height (taken ++ p ∷ []) us (both _ _ h).1)
-taken_below n height taken (Closed v ∷ us) h = let b = both _ _ h in (names_below n v b.0, taken_below n height taken us b.1)
-
-pub closed_below : (n height : ℕ) (us : List Upvalue) → upvalues_stand n height [] us ≡ true → All (ClosedBelow n) us
-closed_below n height us h = All-from_recursion (ClosedBelow n) us (taken_below n height [] us h)
-
 -- no two are open at one place: none of those places is taken before, and none comes again
 none_open : (us : List Upvalue) (p : ℕ) → find_open us p ≡ None → is_none (find_open us p) ≡ true
 none_open us p e = ap is_none e
@@ -78,7 +53,7 @@ pub record Apart (taken : List ℕ) (us : List Upvalue) : Type 0 where
   pub differ : places_differ us ≡ true
   pub fresh : (p : ℕ) → list_any (nat_eq p) taken ≡ true → find_open us p ≡ None
 
-other : (b : Bool) → not b ≡ true → b ≡ true → ⊥
+pub other : (b : Bool) → not b ≡ true → b ≡ true → ⊥
 other true h e = cc
 other false h e = cc
 
@@ -89,13 +64,13 @@ last_one : (a : Bool) → (a || (true || false)) ≡ true
 last_one true = refl
 last_one false = refl
 
-at_end : (taken : List ℕ) (q : ℕ) → list_any (nat_eq q) (taken ++ q ∷ []) ≡ true
+pub at_end : (taken : List ℕ) (q : ℕ) → list_any (nat_eq q) (taken ++ q ∷ []) ≡ true
 at_end taken q = list_any-append (nat_eq q) taken (q ∷ []) ∙ ap (λ b. list_any (nat_eq q) taken || (b || false)) (same_number q) ∙ last_one (list_any (nat_eq q) taken)
   where
     same_number : (n : ℕ) → nat_eq n n ≡ true
     same_number n = grind (arith, nat_tests)
 
-before_end : (taken : List ℕ) (p q : ℕ) → list_any (nat_eq p) taken ≡ true → list_any (nat_eq p) (taken ++ q ∷ []) ≡ true
+pub before_end : (taken : List ℕ) (p q : ℕ) → list_any (nat_eq p) taken ≡ true → list_any (nat_eq p) (taken ++ q ∷ []) ≡ true
 before_end taken p q h = list_any-append (nat_eq p) taken (q ∷ []) ∙ ap (λ b. b || list_any (nat_eq p) (q ∷ [])) h
 
 is_false : (b : Bool) → (b ≡ true → ⊥) → b ≡ false

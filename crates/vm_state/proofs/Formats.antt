@@ -8,9 +8,10 @@ use Rattle.state_forms.specs.Shapes.{◌>>=◌, list_in, u32_in}
 use Rattle.vm_course.specs.Run.{RunState}
 use Rattle.vm_state.specs.declared.parts.Format.{Format}
 use Rattle.vm_state.specs.declared.parts.Format.TheVariants.{First, Second}
-use Rattle.vm_state.specs.Saved.{Written, requests_in}
+use Rattle.vm_course.specs.States.{requests_in, is_state}
+use Rattle.vm_state.specs.Saved.{Written}
 use Rattle.vm_state.specs.Layout.{Counts, counts_in, rest_in, rest_by, format_in, written_by, behind_format, written_in_list, written_in}
-use Rattle.vm_state.specs.Tests.{is_state, is_written, format_stands}
+use Rattle.vm_state.specs.Tests.{is_written, format_stands}
 use Rattle.vm_state.specs.Text.{text_in, where_state, state_in}
 use Rattle.vm_state.specs.Refusals.{IsLoaded}
 use Rattle.vm_state.specs.Laws.{format_of_text, SavesLoaded, HasFormat, LoadsStates}

@@ -14,8 +14,7 @@ use Rattle.hog_meaning.specs.World.{Fixed}
 use Rattle.vm_course.specs.State.{Upvalue, Opened, Closed, Frame, ThrowFrame, State}
 use Rattle.vm_course.specs.Stack.{keep}
 use Rattle.vm_course.specs.Run.{RunState}
-use Rattle.vm_state.specs.Saved.{requests_in}
-use Rattle.vm_state.specs.Tests.{names, cell_stands, is_function, later_frames, frames_stand, base_at, reaches, lands, throws_stand, upvalues_stand, globals_stand, counts_stand, values_stand, is_state}
+use Rattle.vm_course.specs.States.{requests_in, names, cell_stands, is_function, later_frames, frames_stand, base_at, reaches, lands, throws_stand, upvalues_stand, globals_stand, counts_stand, values_stand, is_state}
 use Rattle.vm_state.proofs.Alls.{all_back, all_last, all_tested}
 use Rattle.vm_state.proofs.HeapsStand.{CellStands}
 use Rattle.vm_state.proofs.FramesStand.{IsFunction, Choice, Own, Below, Calls, CallsStand, calls_base}
@@ -67,7 +66,7 @@ abbrev Later : HeapOf FunCell → ℕ → ℕ → List Frame → Type 0
 Later h height low [] = Unit {0}
 Later h height low (f ∷ fs) = IsFunction h f.function × (low ≤ f.base) × (f.base ≤ height) × Later h height f.base fs
 
-abbrev last_base : ℕ → List Frame → ℕ
+abbrev pub last_base : ℕ → List Frame → ℕ
 last_base low [] = low
 last_base low (f ∷ fs) = last_base f.base fs
 
@@ -75,7 +74,7 @@ later_last : (h : HeapOf FunCell) (height low : ℕ) (fs : List Frame) (f : Fram
 later_last h height low [] f l is le up = (is, le, up, tt)
 later_last h height low (g ∷ gs) f l is le up = (l.0, l.1, l.2, later_last h height g.base gs f l.3 is le up)
 
-base_last : (low : ℕ) (fs : List Frame) (f : Frame) → last_base low (fs ++ f ∷ []) ≡ f.base
+pub base_last : (low : ℕ) (fs : List Frame) (f : Frame) → last_base low (fs ++ f ∷ []) ≡ f.base
 base_last low [] f = refl
 base_last low (g ∷ gs) f = base_last g.base gs f
 
@@ -88,7 +87,7 @@ later_pass h height low [] l = refl
 later_pass h height low (f ∷ fs) l =
     (function_passes h f.function l.0 & le-leb low f.base l.1 & le-leb f.base height l.2) & later_pass h height f.base fs l.3
 
-back_more : {A : Type 0} (x : A) (xs : List A) → reverse (x ∷ xs) ≡ reverse xs ++ x ∷ []
+pub back_more : {A : Type 0} (x : A) (xs : List A) → reverse (x ∷ xs) ≡ reverse xs ++ x ∷ []
 back_more x xs = reverse-append (x ∷ []) xs
 
 -- the frames that were around the last, from the program's on
@@ -160,14 +159,14 @@ frames_pass h f fs height ts deep c =
 abbrev limit_over : List Frame → ℕ → ℕ
 limit_over above top = unwrap_or (base_at above 0) top
 
-record LandsIn (whole : List Frame) (top : ℕ) (t : ThrowFrame) : Type 0 where
-  some : 1 ≤ t.frames
-  base : ℕ
-  at : base_at whole (t.frames - 1) ≡ Some base
-  reached : base ≤ t.height
-  within : t.height ≤ unwrap_or (base_at whole t.frames) top
+pub record LandsIn (whole : List Frame) (top : ℕ) (t : ThrowFrame) : Type 0 where
+  pub some : 1 ≤ t.frames
+  pub base : ℕ
+  pub at : base_at whole (t.frames - 1) ≡ Some base
+  pub reached : base ≤ t.height
+  pub within : t.height ≤ unwrap_or (base_at whole t.frames) top
 
-at_middle : (xs : List Frame) (f : Frame) (above : List Frame) (n : ℕ) → n ≡ length xs → base_at (xs ++ f ∷ above) n ≡ Some f.base
+pub at_middle : (xs : List Frame) (f : Frame) (above : List Frame) (n : ℕ) → n ≡ length xs → base_at (xs ++ f ∷ above) n ≡ Some f.base
 at_middle [] f above zero e = refl
 at_middle [] f above (suc n) e = absurd (omega (arith, e))
 at_middle (x ∷ xs) f above zero e = absurd (omega (arith, e))
@@ -216,7 +215,7 @@ all_land h top whole f (g ∷ gs) above height ts is le c =
 
 -- each is not below the one before it
 
-abbrev Falling : ℕ → ℕ → List ThrowFrame → Type 0
+abbrev pub Falling : ℕ → ℕ → List ThrowFrame → Type 0
 Falling most highest [] = Unit {0}
 Falling most highest (t ∷ ts) = (t.frames ≤ most) × (t.height ≤ highest) × Falling t.frames t.height ts
 
@@ -231,11 +230,11 @@ falls h fs height (t ∷ ts) c =
     let n = length-keep t.frames fs l.framed in
     (l.framed, l.within, subst (λ k. Falling k t.height ts) n (falls h (keep t.frames fs) t.height ts l.calls))
 
-abbrev last_frames : ℕ → List ThrowFrame → ℕ
+abbrev pub last_frames : ℕ → List ThrowFrame → ℕ
 last_frames n [] = n
 last_frames n (t ∷ ts) = last_frames t.frames ts
 
-abbrev last_height : ℕ → List ThrowFrame → ℕ
+abbrev pub last_height : ℕ → List ThrowFrame → ℕ
 last_height n [] = n
 last_height n (t ∷ ts) = last_height t.height ts
 
@@ -243,11 +242,11 @@ rises_more : (fewest lowest : ℕ) (ts : List ThrowFrame) (t : ThrowFrame) → R
 rises_more fewest lowest [] t r a b = (a, b, tt)
 rises_more fewest lowest (u ∷ us) t r a b = (r.0, r.1, rises_more u.frames u.height us t r.2 a b)
 
-frames_last : (n : ℕ) (ts : List ThrowFrame) (t : ThrowFrame) → last_frames n (ts ++ t ∷ []) ≡ t.frames
+pub frames_last : (n : ℕ) (ts : List ThrowFrame) (t : ThrowFrame) → last_frames n (ts ++ t ∷ []) ≡ t.frames
 frames_last n [] t = refl
 frames_last n (u ∷ us) t = frames_last u.frames us t
 
-height_last : (n : ℕ) (ts : List ThrowFrame) (t : ThrowFrame) → last_height n (ts ++ t ∷ []) ≡ t.height
+pub height_last : (n : ℕ) (ts : List ThrowFrame) (t : ThrowFrame) → last_height n (ts ++ t ∷ []) ≡ t.height
 height_last n [] t = refl
 height_last n (u ∷ us) t = height_last u.height us t
 

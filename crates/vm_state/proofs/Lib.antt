@@ -21,3 +21,5 @@ mod ActsStand
 mod StartsStand
 mod IsStates
 mod RunsStand
+mod MachinesStand
+mod MachinesGoOn

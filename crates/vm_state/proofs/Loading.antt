@@ -10,9 +10,9 @@ use Rattle.vm_state.specs.declared.stop.StateStop.TheVariants as stops
 use Rattle.vm_course.specs.Run.{RunState}
 use Rattle.vm_state.specs.declared.parts.Format.{Format}
 use Rattle.vm_state.specs.declared.parts.Format.TheVariants.{First, Second}
-use Rattle.vm_state.specs.Saved.{requests_in}
+use Rattle.vm_course.specs.States.{requests_in, is_state}
 use Rattle.vm_state.specs.Layout.{saved_data}
-use Rattle.vm_state.specs.Tests.{is_state, is_written, format_stands}
+use Rattle.vm_state.specs.Tests.{is_written, format_stands}
 use Rattle.vm_course.specs.Belongs.{belongs}
 use Rattle.vm_state.specs.Text.{text_in, where_state, state_in, of_written, of_read, load_of}
 use Rattle.vm_state.specs.Laws.{IsMachineOf, LoadsSaved, LoadsOld, Renews}

@@ -11,10 +11,10 @@ use Rattle.vm_course.specs.State.{Slot, code_slots}
 use Rattle.vm_course.specs.Course.{literals_of_code}
 use Rattle.vm_course.specs.Run.{RunState}
 use Rattle.vm_course.specs.Belongs.{is_place, cell_belongs, places_belong, belongs}
-use Rattle.vm_state.specs.Tests.{names, cell_stands, upvalues_stand, counts_stand, calls_stand, globals_stand, waits_for, is_state}
+use Rattle.vm_course.specs.States.{names, cell_stands, upvalues_stand, counts_stand, calls_stand, globals_stand, waits_for, is_state}
 use Rattle.vm_state.specs.declared.parts.Parts.{Parts}
 use Rattle.vm_state.specs.Parts.{state_of, rest_stands, parts_hold, upvalues_hold, places_hold, literals_hold}
-use Rattle.vm_state.proofs.Seen.{list_all-reverse}
+use Rattle.vm_operations.proofs.Passing.{list_all-reverse}
 
 moved : (a b c d e g u : Bool) → (a && b && (c && d && u) && e && g) ≡ ((a && b && (c && d) && e && g) && u)
 moved false b c d e g u = refl

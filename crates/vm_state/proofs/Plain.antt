@@ -12,7 +12,7 @@ use Rattle.state_forms.proofs.CallsBack.{frame_fine, throw_fine, upvalue_fine, m
 use Rattle.vm_course.specs.Run.{RunState}
 use Rattle.vm_state.specs.declared.parts.Format.{Format}
 use Rattle.vm_state.specs.declared.parts.Format.TheVariants.{First, Second}
-use Rattle.vm_state.specs.Saved.{requests_in}
+use Rattle.vm_course.specs.States.{requests_in}
 use Rattle.vm_state.specs.Layout.{rest_data, saved_data}
 use Rattle.vm_state.specs.Text.{text_in}
 use Rattle.vm_state.specs.Laws.{SavedFits}

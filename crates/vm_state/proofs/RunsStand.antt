@@ -19,9 +19,8 @@ use Rattle.vm_course.specs.Course.{literals_of_code, started, fixed_by, steps, m
 use Rattle.vm_course.specs.Run.{RunState, globals_cell, begun_with, fixed_of, one_more, with_replies, IsRunOf}
 use Rattle.vm_course.specs.Belongs.{belongs}
 use Rattle.vm_course.proofs.CodesBelong.{begins_belonging, keeps_belonging}
-use Rattle.vm_state.specs.Saved.{requests_in}
-use Rattle.vm_state.specs.Tests.{is_state}
-use Rattle.vm_state.specs.Laws.{CellNumbers, AreGlobals, RunsAreMachines}
+use Rattle.vm_course.specs.States.{requests_in, is_state}
+use Rattle.vm_state.specs.Laws.{CellNumbers, NumbersFit, IsMachineOf, AreGlobals, RunsAreMachines}
 use Rattle.vm_state.proofs.Alls.{all_if}
 use Rattle.vm_state.proofs.HeapsStand.{CellStands}
 use Rattle.vm_state.proofs.StatesStand.{Stand}
@@ -31,14 +30,14 @@ use Rattle.vm_state.proofs.IsStates.{is_a_state}
 
 -- what is known of a run
 
-record RunStands (r : RunState) : Type 0 where
-  is : is_state r ≡ true
-  turns : r.state.turns < 2 ^ 32
-  units : r.state.units < 2 ^ 32
-  asked : requests_in r.state.trace < 2 ^ 32
-  globals : IfSome r.globals (λ n. n < 2 ^ 32)
-  none_left : r.state.replies ≡ []
-  keys : AllByRecursion HasDistinctKeys r.state.heap
+pub record RunStands (r : RunState) : Type 0 where
+  pub is : is_state r ≡ true
+  pub turns : r.state.turns < 2 ^ 32
+  pub units : r.state.units < 2 ^ 32
+  pub asked : requests_in r.state.trace < 2 ^ 32
+  pub globals : IfSome r.globals (λ n. n < 2 ^ 32)
+  pub none_left : r.state.replies ≡ []
+  pub keys : AllByRecursion HasDistinctKeys r.state.heap
 
 cell_keys : (n u : ℕ) (c : CellOf FunCell) → CellStands n u c → HasDistinctKeys c
 cell_keys n u (Text t) h = tt
@@ -75,7 +74,7 @@ other_replies fixed rs s st = record {
   literals = st.literals;
 }
 
-stands : (fixed : Fixed) (r : RunState) → Stand fixed r.state → r.globals ≡ Some fixed.globals → r.state.replies ≡ [] → RunStands r
+pub stands : (fixed : Fixed) (r : RunState) → Stand fixed r.state → r.globals ≡ Some fixed.globals → r.state.replies ≡ [] → RunStands r
 stands fixed r st globals none =
     let turns = st.turns in
     let units = st.heap.within in
@@ -157,24 +156,27 @@ module _ (code : Ops) (globals : List ℕ) (replies : List Reply) where
       ∙ ap (λ (fixed : Fixed). belongs code (record r { globals = globals_cell o; state = with_replies [] (after fixed) })) (fixed_same o)
       ∙ there
 
+-- a machine of a code, from what is known of a run
+pub machine_from : (code : Ops) (r : RunState) → RunStands r → NumbersFit r → belongs code r ≡ true → IsMachineOf code r
+machine_from code r s fit there = record {
+  fits = record {
+    ops = fit.ops;
+    turns = s.turns;
+    units = s.units;
+    used = fit.used;
+    asked = s.asked;
+    globals = s.globals;
+    stack = fit.stack;
+    frames = fit.frames;
+    throws = fit.throws;
+    upvalues = fit.upvalues;
+    heap = cells_fit r.state.heap fit.heap s.keys;
+    replies = s.none_left;
+  };
+  state = s.is;
+  belongs = there;
+}
+
 pub runs_are_machines : RunsAreMachines
 runs_are_machines code globals replies r is object on fit =
-    let s = run_stands code globals replies object r on in
-    record {
-      fits = record {
-        ops = fit.ops;
-        turns = s.turns;
-        units = s.units;
-        used = fit.used;
-        asked = s.asked;
-        globals = s.globals;
-        stack = fit.stack;
-        frames = fit.frames;
-        throws = fit.throws;
-        upvalues = fit.upvalues;
-        heap = cells_fit r.state.heap fit.heap s.keys;
-        replies = s.none_left;
-      };
-      state = s.is;
-      belongs = run_belongs code globals replies is r on;
-    }
+    machine_from code r (run_stands code globals replies object r on) fit (run_belongs code globals replies is r on)

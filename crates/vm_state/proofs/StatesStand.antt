@@ -22,7 +22,7 @@ use Rattle.vm_course.specs.State.{Frame, ThrowFrame, Running, State}
 use Rattle.vm_course.specs.Stack.{with_value, close, keep, push, cut_to}
 use Rattle.vm_course.specs.Throws.{ends, with_heap, ends_shown, caught, throw_to, throw_made, throw_kind, on_result, on_outcome, with_turn}
 use Rattle.vm_course.specs.Step.{with_spent, said}
-use Rattle.vm_state.specs.Tests.{waits_for}
+use Rattle.vm_course.specs.States.{waits_for}
 use Rattle.vm_state.proofs.Alls.{all_drop}
 use Rattle.vm_state.proofs.HeapsStand.{HeapStands, Keeps, all_names_more, Stands, Named, thrown_stands}
 use Rattle.vm_state.proofs.OperatorsStand.{ResultNamed}

@@ -1,4 +1,5 @@
--- The machine of `return 1;` after its first operation and one more, saved, loaded, and refused in each way.
+-- The machine of `return 1;` after its first operation and one more, saved, loaded, and refused in each way; and one that no
+-- run comes to, which is loaded too.
 use Rattle.std.specs.Prelude.{◌≡◌, pos, [], ◌∷◌, Some, None, Ok, Err, codes}
 use Rattle.std.proofs.Common.{refl}
 use Rattle.std.specs.Fmt.{digits}
@@ -12,7 +13,8 @@ use Rattle.vm_state.specs.declared.stop.StateStop.TheVariants as stops
 use Rattle.vm_course.specs.Run.{RunState}
 use Rattle.vm_state.specs.declared.parts.Format.TheVariants.{First}
 use Rattle.vm_state.specs.Layout.{counts_in, calls_in, held_in, lists_in, rest_in}
-use Rattle.vm_state.specs.Tests.{is_state, is_written}
+use Rattle.vm_course.specs.States.{is_state}
+use Rattle.vm_state.specs.Tests.{is_written}
 use Rattle.vm_course.specs.Belongs.{belongs}
 use Rattle.vm_state.specs.Text.{text_in, state_text, state_in, of_read, load_of}
 
@@ -76,3 +78,27 @@ no_operation = refl
 spaced : load_of one (codes "[\"hog-state\", 2,2,0,8,0,0,0,null,[1],[[4,0,null]],[],[],[[\"d\",[]]],[]]") ≡ Err stops.NotCanonical
 unfolding load_of of_read state_in is_written is_state belongs text_in rest_in lists_in counts_in calls_in held_in list_by digits serde_json_on_literals
 spaced = refl
+
+-- the machine behind the first operation, but for how many operations it says
+abbrev after_nine : RunState
+after_nine = record {
+  ops = 9;
+  used = 0;
+  globals = Some 0;
+  state = record {
+    stack = [];
+    frames = record { place = 2; base = 0; function = None } ∷ [];
+    throws = [];
+    upvalues = [];
+    heap = Dict [] ∷ [];
+    turns = 0;
+    units = 8;
+    trace = [];
+    replies = [];
+    mode = Running;
+  };
+}
+
+loaded_nine : load_of one (codes "[\"hog-state\",2,9,0,8,0,0,0,null,[],[[2,0,null]],[],[],[[\"d\",[]]],[]]") ≡ Ok after_nine
+unfolding load_of of_read state_in is_written is_state belongs text_in rest_in lists_in counts_in calls_in held_in list_by digits serde_json_on_literals
+loaded_nine = refl

@@ -1,5 +1,5 @@
 -- How saving and loading undo one another.
-use Rattle.std.specs.Prelude.{◌≡◌, ◌↔◌, ◌≢◌, ℕ, ◌<◌, ◌^◌, List, [], ◌∷◌, true, Option, Some, IfSome, Ok, Err, option_and_then}
+use Rattle.std.specs.Prelude.{◌≡◌, ◌↔◌, ◌≢◌, ℕ, ◌+◌, ◌<◌, ◌^◌, List, [], ◌∷◌, true, Option, Some, IfSome, Ok, Err, option_and_then}
 use Rattle.std.specs.List.{AllByRecursion}
 use Rattle.serde_json.specs.Data.{Data, Members, object}
 use Rattle.serde_json.specs.Read.{read}
@@ -13,15 +13,14 @@ use Rattle.hog_meaning.specs.World.{Reply}
 use Rattle.state_forms.specs.Shapes.{list_in, number_data}
 use Rattle.state_forms.specs.Values.{ValueFits, PairFits, CellFits}
 use Rattle.state_forms.specs.Calls.{FrameFits, ThrowFits, UpvalueFits}
-use Rattle.vm_course.specs.State.{Ended}
+use Rattle.vm_course.specs.State.{Waiting, Ended}
 use Rattle.vm_state.specs.declared.stop.StateStop.{StateStop}
 use Rattle.vm_state.specs.declared.stop.StateStop.TheVariants as stops
-use Rattle.vm_course.specs.Run.{RunState, IsRunOf}
+use Rattle.vm_course.specs.Run.{RunState, begun, run_for, resumed, IsRunOf}
 use Rattle.vm_state.specs.declared.parts.Format.{Format}
 use Rattle.vm_state.specs.declared.parts.Format.TheVariants.{First, Second}
-use Rattle.vm_state.specs.Saved.{requests_in}
+use Rattle.vm_course.specs.States.{requests_in, is_state}
 use Rattle.vm_state.specs.Layout.{format_in, elements_of}
-use Rattle.vm_state.specs.Tests.{is_state}
 use Rattle.vm_course.specs.Belongs.{belongs}
 use Rattle.vm_state.specs.Text.{text_in, load_of}
 use Rattle.vm_state.specs.Refusals.{IsLoaded, IsRefused}
@@ -111,3 +110,24 @@ pub record NumbersFit (r : RunState) : Type 0 where
 abbrev pub RunsAreMachines : Type 0
 RunsAreMachines = (code : Ops) (globals : List ℕ) (replies : List Reply) (r : RunState)
     → IsCode code → AreGlobals globals → IsRunOf code globals replies r → NumbersFit r → IsMachineOf code r
+
+-- What begins is a machine of its code, and a machine of a code stays one, by a slice and by a reply, while its numbers are
+-- those of its types.
+abbrev pub RunsBegin : Type 0
+RunsBegin = (code : Ops) (globals : List ℕ) → IsCode code → AreGlobals globals → NumbersFit (begun code globals) → IsMachineOf code (begun code globals)
+
+abbrev pub SlicesKeep : Type 0
+SlicesKeep = (code : Ops) (n : ℕ) (m : RunState) → IsCode code → IsMachineOf code m → NumbersFit (run_for code n m) → IsMachineOf code (run_for code n m)
+
+abbrev pub RepliesKeep : Type 0
+RepliesKeep = (code : Ops) (reply : Reply) (m : RunState) → IsMachineOf code m → m.state.mode ≡ Waiting → NumbersFit (resumed reply m) → IsMachineOf code (resumed reply m)
+
+-- The text loads, and what was loaded comes by a slice to this run.
+pub record ComesTo (code : Ops) (text : List ℕ) (slice : ℕ) (r : RunState) : Type 0 where
+  pub loaded : RunState
+  pub loads : load_of code text ≡ Ok loaded
+  pub comes : run_for code slice loaded ≡ r
+
+-- A machine that is saved after a slice, loaded and run for another comes to where one slice of as many operations leaves it.
+abbrev pub SavedSlicesCompose : Type 0
+SavedSlicesCompose = (code : Ops) (a b : ℕ) (m : RunState) → IsCode code → IsMachineOf code m → NumbersFit (run_for code a m) → ComesTo code (text_in Second (run_for code a m)) b (run_for code (a + b) m)

@@ -14,7 +14,8 @@ use Rattle.vm_course.specs.State.{Upvalue, Frame, ThrowFrame, Mode}
 use Rattle.vm_course.specs.Run.{RunState}
 use Rattle.vm_state.specs.declared.parts.Format.{Format}
 use Rattle.vm_state.specs.declared.parts.Format.TheVariants.{First, Second}
-use Rattle.vm_state.specs.Saved.{Written, requests_in}
+use Rattle.vm_course.specs.States.{requests_in}
+use Rattle.vm_state.specs.Saved.{Written}
 
 -- Stack, frames and throw frames are written from the bottom: the program's frame comes first.
 

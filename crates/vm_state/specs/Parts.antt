@@ -14,9 +14,9 @@ use Rattle.vm_state.specs.declared.parts.Calls as calls
 use Rattle.vm_state.specs.declared.parts.Held as held
 use Rattle.vm_state.specs.declared.parts.Parts.{Parts}
 use Rattle.vm_state.specs.declared.parts.Written as written
-use Rattle.vm_state.specs.Saved.{Written, requests_in}
+use Rattle.vm_course.specs.States.{requests_in, names, cell_stands, frames_stand, throws_stand, upvalues_stand, counts_stand, calls_stand, globals_stand, waits_for}
+use Rattle.vm_state.specs.Saved.{Written}
 use Rattle.vm_state.specs.Layout.{Counts, Calls, Held, saved_of}
-use Rattle.vm_state.specs.Tests.{names, cell_stands, frames_stand, throws_stand, upvalues_stand, counts_stand, calls_stand, globals_stand, waits_for}
 
 abbrev pub counts_of : counts.Counts → Counts
 counts_of n = record { ops = n.ops; turns = n.turns; units = n.units; used = n.used }

@@ -7,7 +7,7 @@ ghost use Rattle.state_forms.specs.Values.{CellFits};
 ghost use Rattle.vm_frames.specs.Parts.{places_differ};
 ghost use Rattle.vm_frames.specs.Views.{upvalue_of};
 ghost use Rattle.vm_state.specs.Parts.{state_of};
-ghost use Rattle.vm_state.specs.Tests.{is_state};
+ghost use Rattle.vm_course.specs.States.{is_state};
 
 use crate::parts::Parts;
 use hog_value::{Heap, Meter, Shown, Trace};

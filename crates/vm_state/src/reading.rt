@@ -6,7 +6,7 @@ ghost use Rattle.serde_json.specs.View.{view};
 ghost use Rattle.state_forms.specs.Shapes.{Gives};
 ghost use Rattle.hog_value.specs.Views.{cell_of};
 ghost use Rattle.state_forms.specs.Values.{CellFits};
-ghost use Rattle.vm_state.specs.Saved.{requests_in};
+ghost use Rattle.vm_course.specs.States.{requests_in};
 ghost use Rattle.vm_state.specs.Layout.{counts_in, calls_in, held_in, lists_in, rest_in, rest_by, format_named, format_by, written_by, written_in};
 ghost use Rattle.vm_state.specs.Parts.{counts_of, calls_of, held_of, state_of, written_of};
 

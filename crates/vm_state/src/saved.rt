@@ -14,7 +14,7 @@ ghost use Rattle.state_forms.specs.Shapes.{Gives};
 ghost use Rattle.state_forms.specs.Values.{CellFits};
 ghost use Rattle.vm_state.specs.Laws.{SavedFits, IsMachineOf, format_of_text};
 ghost use Rattle.vm_state.specs.Parts.{state_of, written_of};
-ghost use Rattle.vm_state.specs.Tests.{is_state};
+ghost use Rattle.vm_course.specs.States.{is_state};
 ghost use Rattle.vm_state.specs.Text.{text_in, state_text, state_in, of_written, load_of, Answers};
 
 use crate::belonging::parts_belong;

@@ -7,8 +7,8 @@ ghost use Rattle.hog_value.specs.Views.{cell_of};
 ghost use Rattle.hog_meaning.specs.Meaning.{is_request};
 ghost use Rattle.vm_frames.specs.Views.{upvalue_of};
 ghost use Rattle.state_forms.specs.Calls.{mode_of};
-ghost use Rattle.vm_state.specs.Saved.{requests_in};
-ghost use Rattle.vm_state.specs.Tests.{names, cell_stands, is_function, frame_stands, later_frames, frames_stand, base_at, reaches, lands, throw_stands, throws_stand, upvalue_stands, taken_with, upvalues_stand, globals_stand, ends_with_request, waits_for, format_stands, is_state, is_written};
+ghost use Rattle.vm_course.specs.States.{requests_in, names, cell_stands, is_function, frame_stands, later_frames, frames_stand, base_at, reaches, lands, throw_stands, throws_stand, upvalue_stands, taken_with, upvalues_stand, globals_stand, ends_with_request, waits_for, is_state};
+ghost use Rattle.vm_state.specs.Tests.{format_stands, is_written};
 ghost use Rattle.vm_state.specs.Parts.{state_of, written_of, counts_hold, calls_hold, values_hold, parts_hold, upvalues_hold};
 
 use crate::parts::{Calls, Counts, Format, Held, Parts, Written};

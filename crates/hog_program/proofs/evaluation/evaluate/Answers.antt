@@ -1,6 +1,7 @@
-use Rattle.std.proofs.Common.{◌≡◌, ◌<◌, ◌≤◌, ◌+◌, ◌^◌, ℕ, [], Ok, true, false, sym, ap, subst, ◌∙◌, arith}
+use Rattle.std.proofs.Common.{◌≡◌, ◌<◌, ◌≤◌, ◌+◌, ◌^◌, ℕ, [], true, false, sym, ap, subst, ◌∙◌, arith}
 use Rattle.std.specs.Bool.{OnFalse}
 use Rattle.hog_value.specs.Meters.{max_turns}
+use Rattle.vm_course.specs.State.{Running}
 use Rattle.vm_course.specs.Run.{RunState, IsRunOf}
 use Rattle.vm_course.specs.Belongs.{belongs}
 use Rattle.hog_program.proofs.Evaluating.{running_if, asks_not, ended_not, is_short, shows_meaning}
@@ -30,23 +31,28 @@ goes_on c =
     subst (IsRunOf c.args.code.now c.args.globals.now []) (sym c.in_ok-run.ensures.ran)
     (c.slices_on_course.ensures c.args.code.now c.args.globals.now [] 4294967295 c.loop-machine.machine.run c.loop-machine.invariant.on)
 
+is_running : (c : goal.After-turns-turns) → c.run.new.self.run.state.mode ≡ Running
+is_running c = running_if c.run.new.self.run.state.mode (sym c.in_ok-run.ensures.pause ∙ c.in-Sliced.is)
+
 is_bounded : (c : goal.After-turns-turns) → c.run.new.self.run.ops < 2 ^ 49
 is_bounded c =
-    let running = running_if c.run.new.self.run.state.mode (sym c.in_ok-run.ensures.pause ∙ c.in-Sliced.is) in
     let few = subst (λ n. n ≤ max_turns) c.turns-turns.ensures.turns c.turns-turns.ensures.few in
     is_short c.args.code.now c.args.globals.now c.run.new.self.run (goes_on c) c.requires.compiled.whole c.course_is_bounded.ensures c.requires.compiled.named c.requires.compiled.is_code
-    c.ops-ops.ensures.code running few
+    c.ops-ops.ensures.code (is_running c) few
 
 pub loop-machine-smaller : goal.loop-machine-smaller
 loop-machine-smaller c =
-    let more = c.in_ok-run.ensures.all_done (ap Ok c.in-Sliced.is) in
+    let is = c.in_ok-run.ensures.ran in
+    let count = c.slices_count.ensures c.args.code.now 4294967295 c.loop-machine.machine.run in
+    let more = ap (λ (r : RunState). r.ops) is ∙ count.all_done (sym (ap (λ (r : RunState). r.state.mode) is) ∙ is_running c) in
     omega (arith, more, is_bounded c)
 
 pub loop-machine-preserved : goal.loop-machine-preserved
 loop-machine-preserved c = record {
   on = goes_on c;
   fresh = c.in_ok-run.ensures.fresh;
-  belongs = c.in_ok-run.ensures.belongs;
+  belongs = ap (belongs c.args.code.now) c.in_ok-run.ensures.ran
+      ∙ c.slices_belong.ensures c.args.code.now 4294967295 c.loop-machine.machine.run c.ops-ops.ensures.code c.loop-machine.invariant.belongs;
   short = omega (arith, is_bounded c);
 }
 

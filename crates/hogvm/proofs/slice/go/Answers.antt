@@ -36,9 +36,6 @@ returns-then-not-goes_on-2-clause-ran c =
 pub returns-then-not-goes_on-2-clause-fresh : goal.returns-then-not-goes_on-2-clause-fresh
 returns-then-not-goes_on-2-clause-fresh c = c.loop-i.invariant.fresh
 
-pub returns-then-not-goes_on-2-clause-belongs : goal.returns-then-not-goes_on-2-clause-belongs
-returns-then-not-goes_on-2-clause-belongs c = c.loop-i.invariant.belongs
-
 pub returns-clause-ran : goal.returns-clause-ran
 returns-clause-ran c =
     let all : c.loop-i._i ≡ c.args.slice = omega (arith, c.loop-i-test.false, c.loop-i.auto._i-end) in
@@ -46,6 +43,3 @@ returns-clause-ran c =
 
 pub returns-clause-fresh : goal.returns-clause-fresh
 returns-clause-fresh c = c.loop-i.invariant.fresh
-
-pub returns-clause-belongs : goal.returns-clause-belongs
-returns-clause-belongs c = c.loop-i.invariant.belongs

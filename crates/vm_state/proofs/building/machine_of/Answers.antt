@@ -1,5 +1,6 @@
-use Rattle.std.proofs.Common.{refl, arith}
-use Rattle.vm_state.proofs.Built.{holds, fit_made, standing_made, modes, is_true}
+use Rattle.std.proofs.Common.{ap, ◌∙◌, arith}
+use Rattle.vm_course.specs.States.{is_state}
+use Rattle.vm_state.proofs.Built.{holds, same_run, modes, is_true}
 use Rattle.vm_state.proofs.building.machine_of.Goals as goal
 
 pub from_cells-heap-requires : goal.from_cells-heap-requires
@@ -17,10 +18,7 @@ split-around-requires-clause-few c = (holds c.args.p c.requires.state c.requires
 pub invariant_of-meter : goal.invariant_of-meter
 invariant_of-meter c = let h = holds c.args.p c.requires.state c.requires.ranged in (h.turns, h.units, omega arith)
 
-pub from_parts-requires-clause-fit : goal.from_parts-requires-clause-fit
-from_parts-requires-clause-fit c =
-    fit_made c.args.p _ (holds c.args.p c.requires.state c.requires.ranged) c.in_ok-stack.ensures c.in_ok-upvalues.ensures c.from_cells-heap.ensures refl
-
-pub from_parts-requires-clause-standing : goal.from_parts-requires-clause-standing
-from_parts-requires-clause-standing c =
-    standing_made c.args.p _ (holds c.args.p c.requires.state c.requires.ranged) refl c.from_cells-heap.ensures (modes c.args.p.waiting c.args.p.end) c.new-trace.ensures
+pub from_parts-requires : goal.from_parts-requires
+from_parts-requires c =
+    ap is_state (same_run c.args.p _ _ _ _ _ _ _ c.in_ok-stack.ensures c.split-around.ensures c.from_list.ensures c.in_ok-upvalues.ensures c.from_cells-heap.ensures c.new-trace.ensures (modes c.args.p.waiting c.args.p.end))
+    ∙ c.requires.state

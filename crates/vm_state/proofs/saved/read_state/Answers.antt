@@ -1,7 +1,7 @@
 use Rattle.std.proofs.Common.{sym, ap, ◌∙◌}
 use Rattle.vm_state.specs.declared.parts.Written as read
 use Rattle.vm_state.specs.Parts.{state_of, written_of}
-use Rattle.vm_state.specs.Tests.{is_state}
+use Rattle.vm_course.specs.States.{is_state}
 use Rattle.vm_state.proofs.Formats.{stands}
 use Rattle.vm_state.proofs.Outcomes.{IfOk_two}
 use Rattle.vm_state.proofs.saved.read_state.Goals as goal

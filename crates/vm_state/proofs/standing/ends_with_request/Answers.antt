@@ -3,7 +3,7 @@ use Rattle.std.proofs.lemmas.Option.{same_Some}
 use Rattle.std.specs.Prelude.{slice_get}
 use Rattle.hog_value.specs.declared.trace.TraceItem.{TraceItem}
 use Rattle.hog_meaning.specs.Meaning.{is_request}
-use Rattle.vm_state.specs.Tests.{ends_with_request}
+use Rattle.vm_course.specs.States.{ends_with_request}
 use Rattle.vm_state.proofs.standing.ends_with_request.Goals as goal
 
 last_is : (xs : List TraceItem) (x : TraceItem) → Some x ≡ slice_get xs (length xs - 1) → is_request x ≡ ends_with_request xs

@@ -1,6 +1,6 @@
 use Rattle.std.proofs.Common.{◌≡◌, drop, map}
 use Rattle.hog_value.specs.Views.{cell_of}
-use Rattle.vm_state.specs.Tests.{later_frames}
+use Rattle.vm_course.specs.States.{later_frames}
 use Rattle.vm_state.proofs.standing.later_frames.Given as goal
 
 abbrev pub invariant-loop-f : goal.invariant-loop-f

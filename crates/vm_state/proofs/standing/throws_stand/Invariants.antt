@@ -1,5 +1,5 @@
 use Rattle.std.proofs.Common.{◌≡◌, drop}
-use Rattle.vm_state.specs.Tests.{throws_stand}
+use Rattle.vm_course.specs.States.{throws_stand}
 use Rattle.vm_state.proofs.standing.throws_stand.Given as goal
 
 abbrev pub invariant-loop-t : goal.invariant-loop-t

@@ -1,6 +1,6 @@
 use Rattle.std.proofs.Common.{◌≡◌, drop, map, []}
 use Rattle.vm_frames.specs.Views.{upvalue_of}
-use Rattle.vm_state.specs.Tests.{upvalues_stand}
+use Rattle.vm_course.specs.States.{upvalues_stand}
 use Rattle.vm_state.proofs.standing.upvalues_stand.Given as goal
 
 abbrev pub invariant-loop-u : goal.invariant-loop-u
