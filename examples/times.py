@@ -2,7 +2,7 @@
 """Measures the times of docs/CHECKING.md: times.py PROGRAM
 
 Prints processor milliseconds of the program, the best of several runs: loops beside CPython's, `fmt` and `compile` at three
-lengths of source, and a slice of work at two lengths of source and of saved state. The start of a process is taken off.
+lengths of source, what a take costs among few and many jobs, and a slice of work at two lengths of source and of saved state. The start of a process is taken off.
 Run it with nothing else at work.
 """
 import json
@@ -105,6 +105,15 @@ def main():
             text = of_length(kib * 1024, piece)
             row = [f"{word} {best(program, word, text, 11) - start:.1f}" for word in ("fmt", "compile")]
             print(f"{', '.join(row)}: {kib} KiB of {name}")
+    for jobs in (100, 16384):
+        steps = [["enqueue", "while (true) {}", {}, 0, 0]] * jobs
+        for name, pair in [
+            ("take, work of one operation, flush", [["take", 0, "hog", 0], ["work", 0, 1], ["flush", 0]]),
+            ("take, put back", [["take", 0, "hog", 0], ["back", 0, 0]]),
+        ]:
+            count = 10000
+            more = best(program, "replay", json.dumps(steps + pair * count), 5) - best(program, "replay", json.dumps(steps), 5)
+            print(f"replay {more / count * 1000:.1f} microseconds: {name}, among {jobs} jobs that are due")
     for length in (200, 16000):
         for cells, size in ((0, "a small state"), (170, "a state of 16 KiB"), (10934, "a state of 1 MiB")):
             source = job(length, cells)
