@@ -1,4 +1,3 @@
-pub mod CourseRuns
 pub mod RowLemmas
 pub mod GlobalsLemmas
 pub mod ShortRuns

@@ -28,7 +28,7 @@ use Rattle.queue_history.specs.Rows.{RowIs, after_in}
 use Rattle.hog_jobs.specs.Course.{replies_of, ComesNext, StandsAt}
 use Rattle.hog_jobs.specs.Inputs.{IsInput}
 use Rattle.hog_jobs.specs.Rows.{AgreesWithMeaning, RowsAgree, QueuesAgree}
-use Rattle.hog_jobs.proofs.CourseRuns.{mode_there, trace_there, left_there}
+use Rattle.hog_jobs.specs.CourseRuns.{mode_there, trace_there, left_there}
 
 -- a completed job is on the queue of jobs to be run
 

@@ -11,7 +11,7 @@ use Rattle.vm_course.specs.States.{is_state}
 use Rattle.hog_bridge.specs.Laws.{op_operations, operations}
 use Rattle.hog_program.specs.Course.{CourseIsShort}
 use Rattle.hog_jobs.specs.Laws.{FewOperations}
-use Rattle.hog_jobs.proofs.CourseRuns.{turns_there, defined_there}
+use Rattle.hog_jobs.specs.CourseRuns.{turns_there, defined_there}
 
 -- an operation takes an element at least
 

@@ -13,7 +13,7 @@ use Rattle.cyclotron_jobs.specs.Replies.{AllowsReply}
 use Rattle.hog_jobs.specs.Course.{reply_of, replies_of, StandsAt}
 use Rattle.hog_jobs.specs.Inputs.{IsInput}
 use Rattle.hog_jobs.specs.Jobs.{IsCourse}
-use Rattle.hog_jobs.proofs.CourseRuns.{stands_on}
+use Rattle.hog_jobs.specs.CourseRuns.{stands_on}
 
 pub begins : (input : JobInput) → IsInput input → IsCourse input [] 0 [] shows_nothing Hog
 begins input is = record { taken = is; stands = (refl, refl, refl) }

@@ -1,4 +1,4 @@
-use Rattle.hog_jobs.proofs.CourseRuns as runs
+use Rattle.hog_jobs.specs.CourseRuns as runs
 use Rattle.hog_jobs.proofs.laws.one_run.Goals as goal
 
 pub returns : goal.returns
