@@ -56,8 +56,8 @@ impl Lists {
         Ok(())
     }
 
-    /// Puts a node at its place in a list that is in order. It looks for the place from the end on backwards, so a node
-    /// that goes last takes constant time.
+    /// Puts a node at its place in a list that is in order. It looks for the place from both ends in turn, so a node
+    /// that goes first or last takes constant time.
     pub fn insert_by<L: Before>(&mut self, list: u32, node: u32, order: &L)
         requires list { list < length self.old.lists }
         requires node { node < self.old.reserved }
@@ -126,7 +126,8 @@ fn node_at(ends: u32, place: usize) -> Option<u32>
     }
 }
 
-/// The place behind which a node goes, looked for from the end of the list.
+/// The place behind which a node goes, looked for from both ends of the list in turn. All nodes up to `front` come
+/// before it, and it comes before all behind `last`; none is asked for twice.
 fn gap<L: Before>(links: &[Link], ends: u32, list: u32, node: u32, order: &L) -> usize
     requires list { list < ends }
     requires threaded { IsThreaded links.now ends }
@@ -137,11 +138,19 @@ fn gap<L: Before>(links: &[Link], ends: u32, list: u32, node: u32, order: &L) ->
 {
     let end = list as usize;
     let ends = ends as usize;
-    let mut at = links[end].before;
-    'search: while at != end && order.before(node, (at - ends) as u32) {
-        at = links[at].before;
+    let mut front = end;
+    let mut last = links[end].before;
+    'search: while front != last && order.before(node, (last - ends) as u32) {
+        last = links[last].before;
+        if front != last {
+            let next = links[front].after;
+            if order.before(node, (next - ends) as u32) {
+                return front;
+            }
+            front = next;
+        }
     }
-    at
+    last
 }
 
 /// Makes two places neighbors.
