@@ -1,8 +1,7 @@
 -- Operations at places of a code, and how many operations begin at or behind a place.
-use Rattle.std.proofs.Common.{◌≡◌, ℕ, zero, suc, ◌+◌, ◌-◌, ◌<◌, ◌≤◌, List, [], ◌∷◌, length, Option, Some, None, refl, sym, ap, ◌∙◌, subst, arith}
+use Rattle.std.proofs.Common.{◌≡◌, ℕ, zero, suc, ◌+◌, ◌<◌, ◌≤◌, List, [], ◌∷◌, Some, refl, subst, arith}
 use Rattle.std.specs.Prelude.{slice_get}
 use Rattle.std.proofs.lemmas.Option.{none-some}
-use Rattle.hog_ops.specs.declared.capture.Capture.{Capture}
 use Rattle.hog_ops.specs.Plain.{Op, Ops, NoOp, MoreOp, ◌⊕◌, Callable}
 use Rattle.hog_ops.specs.Table.{size, span}
 use Rattle.vm_course.specs.State.{Slot, Begins, BodyEnds, Operand, header}

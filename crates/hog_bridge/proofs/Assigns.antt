@@ -1,6 +1,6 @@
 -- Assignments and named functions on the picture.
-use Rattle.std.proofs.Common.{◌≡◌, ℕ, zero, suc, ◌+◌, ◌-◌, ◌<◌, ◌≤◌, ℤ, pos, List, [], ◌∷◌, ◌++◌, length, map, Option, Some, None, Bool, true, false, cond, refl, sym, ap, ◌∙◌, subst, arith, append-nil}
-use Rattle.std.specs.Prelude.{option_and_then, slice_get}
+use Rattle.std.proofs.Common.{◌≡◌, ℕ, suc, ◌+◌, ◌<◌, ◌≤◌, List, [], ◌∷◌, ◌++◌, length, Option, Some, None, true, refl, sym, ap, ◌∙◌, subst, arith}
+use Rattle.std.specs.Prelude.{slice_get}
 use Rattle.std.proofs.lemmas.Option.{slice_get-map}
 use Rattle.hog_value.specs.declared.cell.FunCell.{FunCell}
 use Rattle.hog_value.specs.Values.{Val}
@@ -10,9 +10,8 @@ use Rattle.hog_value.specs.Operations.{Outcome, outcome_map, made, set_key_of}
 use Rattle.hog_value.proofs.Naturality.{made-heap_map}
 use Rattle.hog_tree.specs.Plain.{Word, Stms, ManyStms}
 use Rattle.hog_captures.specs.Frees.{without_all, without, stms_frees}
-use Rattle.hog_captures.specs.Frames as names
-use Rattle.hog_captures.specs.Frames.{find_local, find_up, captured_of, captures_of, inner_frame, with_local}
-use Rattle.hog_compiler.specs.Pieces.{write_op, return_null}
+use Rattle.hog_captures.specs.Frames.{captured_of, captures_of, inner_frame, with_local}
+use Rattle.hog_compiler.specs.Pieces.{write_op}
 use Rattle.hog_compiler.specs.Code.{body_code}
 use Rattle.hog_meaning.specs.Operators.{assigned, property_assigned, set_by}
 use Rattle.hog_meaning.specs.World.{Env, Closure, World, Got, Gives, and_then, Flow, GoesOn, Returns, declare, named, write_var}
@@ -21,26 +20,24 @@ use Rattle.hog_meaning.specs.Meaning.{place_in, literal, assign_word, define}
 use Rattle.hog_meaning.specs.Meaning as mean
 use Rattle.hog_ops.specs.Plain as o
 use Rattle.hog_ops.specs.Plain.{Op, Ops, NoOp, MoreOp, ◌⊕◌}
-use Rattle.hog_ops.specs.Table.{size, span}
-use Rattle.vm_course.specs.State.{Slot, Begins, Frame, State, Upvalue, Opened, Closed, header, function_at}
-use Rattle.vm_course.specs.Stack.{push, top_of, with_value, captured_in, captured_by, write_to, write_numbered, write_upvalue, capture_all}
+use Rattle.hog_ops.specs.Table.{size}
+use Rattle.vm_course.specs.State.{Begins, State, header}
+use Rattle.vm_course.specs.Stack.{push, top_of, with_value, write_to, write_numbered, write_upvalue, capture_all}
 use Rattle.vm_course.specs.Throws.{on_outcome}
-use Rattle.vm_course.specs.Step as vm
 use Rattle.vm_course.specs.Step.{step, act, on_with, on_and_push}
-use Rattle.hog_bridge.proofs.Words.{In, Sub, sub_past, onto, with_word}
-use Rattle.hog_bridge.proofs.Resolved.{StmsOk, sight_of}
+use Rattle.hog_bridge.proofs.Words.{Sub, sub_past, onto}
+use Rattle.hog_bridge.proofs.Resolved.{StmsOk}
 use Rattle.hog_bridge.proofs.Places.{Seat, Temp, Var, read, seat_at, place_of, up_of, up_of_place, stack_of, ups_of, length-stack, seat_place}
 use Rattle.hog_bridge.proofs.Ahead.{HasAt}
 use Rattle.hog_bridge.proofs.Heaps.{keeps_append, all_append}
 use Rattle.hog_bridge.proofs.Operated.{assigned-heap_map, assigned_fair}
-use Rattle.hog_bridge.proofs.Picture.{Given, Ghost, Twin, meant, built, Landing, frame, pic, psi, Comes, one_step, comes_to, stays, FunOk, SeesWord, Under, under_less, Ctx, landings, at, Kept, Fits, Extends, extends_same, Run, run_after, run_then, gives}
-use Rattle.hog_bridge.proofs.Steps.{floor_in, spot, on_pic, top_pic, framed_push, kept_on, kept_push, fits_push, op_is}
+use Rattle.hog_bridge.proofs.Picture.{Given, Ghost, Twin, meant, built, frame, pic, psi, Comes, one_step, stays, FunOk, SeesWord, Under, Ctx, landings, at, Kept, Fits, Run, run_then}
+use Rattle.hog_bridge.proofs.Steps.{floor_in, spot, on_pic, top_pic, framed_push, kept_on, kept_push, op_is}
 use Rattle.hog_bridge.proofs.Parts.{passes, outcome_runs, spends}
 use Rattle.hog_bridge.proofs.Exps.{fits_on, sees_on, captured_on}
 use Rattle.hog_bridge.proofs.Lookups.{captured_is, text_meant}
 use Rattle.hog_bridge.proofs.Operators.{ready_with}
 use Rattle.hog_bridge.proofs.Writes.{ups_new, becomes, writes, writes_closed, kept_write}
-use Rattle.hog_bridge.proofs.Follow.{scoped, StmAt}
 use Rattle.hog_bridge.proofs.Captures.{take_all, Taken, taken_sees, known_names, funs_on}
 use Rattle.hog_bridge.proofs.Calls.{made_either, params_found}
 use Rattle.hog_bridge.proofs.Callees.{pop_step}

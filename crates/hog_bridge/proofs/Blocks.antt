@@ -1,6 +1,6 @@
 -- Statements' parts: pops, flows, jumps, returns and throws on the picture.
-use Rattle.std.proofs.Common.{◌≡◌, ℕ, zero, suc, ◌+◌, ◌-◌, ◌<◌, ◌≤◌, ℤ, pos, List, [], ◌∷◌, ◌++◌, length, Option, Some, None, Bool, true, false, cond, refl, sym, ap, ◌∙◌, subst, ◌⊎◌, inl, inr, arith, length-append, append_assoc}
-use Rattle.std.specs.Prelude.{◌*◌, nat_lt, slice_get}
+use Rattle.std.proofs.Common.{◌≡◌, ℕ, zero, suc, ◌+◌, ◌-◌, ◌<◌, ◌≤◌, pos, List, [], ◌∷◌, ◌++◌, length, Option, Some, None, Bool, true, false, cond, refl, sym, ap, ◌∙◌, subst, ◌⊎◌, inl, inr, arith, length-append, append_assoc}
+use Rattle.std.specs.Prelude.{nat_lt, slice_get}
 use Rattle.std.proofs.lemmas.Bool.Decides.{nat_tests}
 use Rattle.hog_value.specs.declared.trace.End.TheVariants as end
 use Rattle.hog_value.specs.Values.{Val}
@@ -19,17 +19,16 @@ use Rattle.hog_meaning.specs.Meaning.{leave, on_flow}
 use Rattle.hog_ops.specs.Plain as o
 use Rattle.hog_ops.specs.Plain.{Op, Ops, NoOp, MoreOp, ◌⊕◌}
 use Rattle.hog_ops.specs.Table.{size, span}
-use Rattle.vm_course.specs.State.{Slot, Begins, Frame, State}
-use Rattle.vm_course.specs.Stack.{cut_to, push, keep, top_of}
-use Rattle.vm_course.specs.Throws.{ends, ends_shown, goto, throw_value}
-use Rattle.vm_course.specs.Step as vm
-use Rattle.vm_course.specs.Step.{step, act, on_with, jump, jump_or_back, give_back, throws_around}
-use Rattle.hog_bridge.proofs.Words.{Sub, with_word}
-use Rattle.hog_bridge.proofs.Places.{Seat, Temp, Var, stack_of, Distinct, length-stack, lower}
-use Rattle.hog_bridge.proofs.Ahead.{HasAt, has_front, has_back, span-after, left, left_past}
+use Rattle.vm_course.specs.State.{Begins, Frame, State}
+use Rattle.vm_course.specs.Stack.{cut_to, push, keep}
+use Rattle.vm_course.specs.Throws.{goto, throw_value}
+use Rattle.vm_course.specs.Step.{step, act, on_with, jump, give_back, throws_around}
+use Rattle.hog_bridge.proofs.Words.{with_word}
+use Rattle.hog_bridge.proofs.Places.{Seat, Temp, Var, stack_of, Distinct, lower}
+use Rattle.hog_bridge.proofs.Ahead.{HasAt, left_past}
 use Rattle.hog_bridge.proofs.Heaps.{keeps_same}
-use Rattle.hog_bridge.proofs.Picture.{Given, Ghost, Twin, meant, built, Landing, throws_of, frame, pic, phi, psi, Comes, comes_then, comes_to, at_once, one_step, stays, stops, Under, under_less, Ctx, landings, at, OwnLands, OuterLands, Framed, Kept, Fits, Halts, Extends, extends_same, Reaches, ThrowEnds, Run, run_after, run_then, gives}
-use Rattle.hog_bridge.proofs.Steps.{floor_in, spot, pop_pic, on_pic, top_pic, keep_stack, framed_push, kept_on, kept_push, fits_push, raised, op_is, shown_halts}
+use Rattle.hog_bridge.proofs.Picture.{Given, Ghost, meant, built, Landing, throws_of, frame, pic, phi, psi, Comes, comes_then, at_once, one_step, stays, stops, Under, under_less, Ctx, landings, at, OwnLands, OuterLands, Framed, Kept, Fits, Extends, extends_same, Reaches, ThrowEnds, Run, run_after, run_then, gives}
+use Rattle.hog_bridge.proofs.Steps.{spot, pop_pic, on_pic, top_pic, keep_stack, framed_push, kept_on, kept_push, raised, op_is, shown_halts}
 use Rattle.hog_bridge.proofs.Parts.{passes}
 use Rattle.hog_bridge.proofs.Exps.{fits_on}
 use Rattle.hog_bridge.proofs.Lookups.{truth_same}

@@ -1,33 +1,30 @@
 -- What is called, and a value where the first is null.
-use Rattle.std.proofs.Common.{◌≡◌, ℕ, zero, suc, ◌+◌, ◌-◌, ◌<◌, ◌≤◌, ℤ, pos, List, [], ◌∷◌, ◌++◌, length, Option, Some, None, Bool, true, false, cond, refl, sym, ap, ◌∙◌, subst, arith}
+use Rattle.std.proofs.Common.{◌≡◌, ℕ, ◌+◌, ◌<◌, ◌≤◌, pos, List, [], ◌∷◌, length, Option, Some, None, Bool, true, false, cond, refl, sym, ap, ◌∙◌, subst, arith}
 use Rattle.std.specs.Prelude.{slice_get}
 use Rattle.hog_value.specs.declared.native.Native.{Native}
-use Rattle.hog_value.specs.Natives.{native_named, takes_of}
+use Rattle.hog_value.specs.Natives.{native_named}
 use Rattle.hog_value.specs.Values.{Val}
-use Rattle.hog_value.specs.declared.value.Value.TheVariants.{Null, Bool as Truth, Int, Ref}
 use Rattle.hog_tree.specs.Plain as t
 use Rattle.hog_tree.specs.Plain.{Word, Exp}
 use Rattle.hog_captures.specs.Frees.{is_among}
 use Rattle.hog_captures.specs.Frames.{find_local, find_up, knows, is_found}
-use Rattle.hog_compiler.specs.Pieces.{native_code, value_call, read_code}
+use Rattle.hog_compiler.specs.Pieces.{native_code, value_call}
 use Rattle.hog_compiler.specs.Code.{call_code, called_native, exp_code}
 use Rattle.hog_meaning.specs.World.{Env, World, Got, Gives, and_then, find_var, read_var}
 use Rattle.hog_meaning.specs.Meaning as mean
 use Rattle.hog_meaning.specs.Meaning.{Effect, is_null, call_native, call_value, call_named, called_with, read_word, value}
 use Rattle.hog_ops.specs.Plain as o
 use Rattle.hog_ops.specs.Plain.{Op, Ops, NoOp, MoreOp, ◌⊕◌}
-use Rattle.hog_ops.specs.Table.{size, span}
-use Rattle.vm_course.specs.State.{Slot, Begins, State}
-use Rattle.vm_course.specs.Stack.{top_of}
-use Rattle.vm_course.specs.Throws.{goto}
-use Rattle.vm_course.specs.Step.{step, act, on_with, jump}
-use Rattle.hog_bridge.proofs.Words.{In, Sub}
-use Rattle.hog_bridge.proofs.Resolved.{NativeOk, CalleeOk, sight_of, out_of_sight}
-use Rattle.hog_bridge.proofs.Places.{Seat, Temp, Var, stack_of, temps}
+use Rattle.hog_ops.specs.Table.{span}
+use Rattle.vm_course.specs.State.{Begins, State}
+use Rattle.vm_course.specs.Step.{act, on_with, jump}
+use Rattle.hog_bridge.proofs.Words.{In}
+use Rattle.hog_bridge.proofs.Resolved.{NativeOk, CalleeOk, out_of_sight}
+use Rattle.hog_bridge.proofs.Places.{Seat, Temp, temps}
 use Rattle.hog_bridge.proofs.Ahead.{HasAt, has_front, has_back, span-after}
-use Rattle.hog_bridge.proofs.Picture.{Given, Ghost, Landing, frame, Comes, one_step, comes_then, comes_to, at_once, UpSees, SeesWord, Under, under_less, Ctx, landings, at, Framed, Kept, Fits, Extends, extends_same, Run, run_after, gives}
-use Rattle.hog_bridge.proofs.Steps.{floor_in, spot, on_pic, top_pic, framed_push, kept_push, fits_push, fits_temps, op_is}
-use Rattle.hog_bridge.proofs.Parts.{Ready, ExpAt, passes}
+use Rattle.hog_bridge.proofs.Picture.{Given, Ghost, Comes, one_step, comes_to, at_once, SeesWord, Under, under_less, Ctx, landings, at, Fits, extends_same, Run, run_after, gives}
+use Rattle.hog_bridge.proofs.Steps.{spot, on_pic, top_pic, framed_push, kept_push, op_is}
+use Rattle.hog_bridge.proofs.Parts.{ExpAt, passes}
 use Rattle.hog_bridge.proofs.Exps.{exp_then, fits_on, kept_temps, rest_step}
 use Rattle.hog_bridge.proofs.Operators.{ready_with, native_call_runs}
 use Rattle.hog_bridge.proofs.Follow.{Follows}

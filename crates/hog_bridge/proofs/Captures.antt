@@ -1,5 +1,5 @@
 -- What a new function captures.
-use Rattle.std.proofs.Common.{◌≡◌, ◌≢◌, ℕ, zero, suc, ◌+◌, ◌-◌, ◌<◌, ◌≤◌, List, [], ◌∷◌, ◌++◌, length, map, Option, Some, None, Bool, true, false, cond, refl, sym, ap, ◌∙◌, subst, ◌⊎◌, inl, inr, ⊎_elim, arith, length-append, append_assoc, append-nil}
+use Rattle.std.proofs.Common.{◌≡◌, ◌≢◌, ℕ, suc, ◌+◌, ◌<◌, ◌≤◌, List, [], ◌∷◌, ◌++◌, length, Option, Some, None, Bool, true, false, cond, refl, sym, ap, ◌∙◌, subst, ◌⊎◌, inl, inr, ⊎_elim, arith, append_assoc, append-nil}
 use Rattle.std.specs.Prelude.{◌==◌, nat_lt, bytes_eq, slice_get}
 use Rattle.std.proofs.lemmas.List.{length-map}
 use Rattle.std.proofs.lemmas.Bool.Decides.{eqb_tells, nat_tests}
@@ -8,14 +8,13 @@ use Rattle.hog_value.specs.Cells.{HeapOf}
 use Rattle.hog_tree.specs.Plain.{Word}
 use Rattle.hog_captures.specs.Frames as names
 use Rattle.hog_captures.specs.Frames.{find_local, find_up, next_index, is_found, knows, captured_of, captures_of, capture}
-use Rattle.hog_meaning.specs.World.{World, Env, find_var}
-use Rattle.hog_ops.specs.declared.capture.Capture.{Capture}
-use Rattle.vm_course.specs.State.{Slot, Upvalue, Opened, Closed, Frame, State}
+use Rattle.hog_meaning.specs.World.{Env, find_var}
+use Rattle.vm_course.specs.State.{Slot, Upvalue, Frame}
 use Rattle.vm_course.specs.Stack.{one_on, find_open, or_opened, or_closed, capture_one, capture_all}
-use Rattle.hog_bridge.proofs.Words.{In, Sub, Tells, word_tells, captured_known, known_captured, found_in}
-use Rattle.hog_bridge.proofs.Places.{Seat, Temp, Var, read, seat_at, place_of, up_of, up_of_place, stack_of, ups_of, owner_of, Distinct, placed, seat_place, seat_within}
+use Rattle.hog_bridge.proofs.Words.{In, Sub, word_tells, captured_known, known_captured, found_in}
+use Rattle.hog_bridge.proofs.Places.{Seat, Temp, Var, read, place_of, up_of, up_of_place, ups_of, owner_of, Distinct, placed, seat_place, seat_within}
 use Rattle.hog_bridge.proofs.Heaps.{AllFuns, all_map}
-use Rattle.hog_bridge.proofs.Picture.{Given, Ghost, Twin, frame, Owned, UpSees, SeesWord, Sees, FunOk}
+use Rattle.hog_bridge.proofs.Picture.{Twin, Owned, UpSees, SeesWord, Sees, FunOk}
 use Rattle.hog_bridge.proofs.Exps.{up_sees_on, sees_on, get_more}
 use Rattle.hog_bridge.proofs.Writes.{none_on}
 

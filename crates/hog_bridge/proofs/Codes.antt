@@ -1,15 +1,14 @@
 -- Operations, texts and counts in a code as the machine sees it.
-use Rattle.std.proofs.Common.{◌≡◌, ℕ, zero, suc, ◌+◌, ◌*◌, ◌-◌, ◌<◌, ◌≤◌, List, [], ◌∷◌, ◌++◌, length, replicate, Option, Some, None, refl, sym, ap, ◌∙◌, subst, ◌⊎◌, inl, inr, ⊎_elim, arith, length-append, append_assoc}
+use Rattle.std.proofs.Common.{◌≡◌, ℕ, zero, suc, ◌+◌, ◌-◌, List, [], ◌∷◌, ◌++◌, length, replicate, Some, refl, sym, ap, ◌∙◌, subst, ◌⊎◌, inl, inr, ⊎_elim, arith, length-append, append_assoc}
 use Rattle.std.specs.Prelude.{slice_get}
 use Rattle.std.proofs.lemmas.Option.{none-some, same_Some}
-use Rattle.hog_ops.specs.declared.capture.Capture.{Capture}
 use Rattle.hog_ops.specs.Plain.{Op, Ops, NoOp, MoreOp, Callable, Str}
 use Rattle.hog_ops.specs.Table.{size, span}
 use Rattle.vm_course.specs.State.{Slot, Begins, BodyEnds, Operand, op_slots, slots, code_slots, header}
 use Rattle.vm_course.specs.Course.{op_texts, texts}
 use Rattle.hog_bridge.specs.Laws.{op_operations, operations}
 use Rattle.hog_bridge.proofs.Words.{In, in_left, in_right}
-use Rattle.hog_bridge.proofs.Ahead.{HasAt, InnerAt, left, weight}
+use Rattle.hog_bridge.proofs.Ahead.{HasAt, InnerAt, left}
 
 head_of : (o : Op) → (rest : List Slot) × (op_slots o ≡ Begins o ∷ rest)
 head_of (Callable name params body captures) = (_, refl)

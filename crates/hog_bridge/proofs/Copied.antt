@@ -1,15 +1,13 @@
 -- The copies that a loop over values runs over: a list, how many it has, and the index that counts it.
-use Rattle.std.proofs.Common.{◌≡◌, ℕ, zero, suc, ◌+◌, ◌*◌, ◌<◌, ◌≤◌, ℤ, pos, negsuc, ◌+ℤ◌, List, [], ◌∷◌, ◌++◌, length, Option, Some, None, Bool, true, false, cond, Result, Ok, Err, refl, sym, ap, ◌∙◌, subst, arith}
-use Rattle.std.specs.Prelude.{◌&&◌, not, int_le, int_lt, nat_le, nat_lt, slice_get, option_and_then}
-use Rattle.std.specs.Ordering.{int_cmp}
-use Rattle.std.specs.declared.cmp.Ordering.{Ordering}
+use Rattle.std.proofs.Common.{◌≡◌, ℕ, suc, ◌+◌, ◌*◌, ◌≤◌, pos, ◌+ℤ◌, List, [], ◌∷◌, ◌++◌, length, Option, Some, None, Bool, true, false, cond, Ok, refl, ap, arith}
+use Rattle.std.specs.Prelude.{not, int_le, nat_le, nat_lt, slice_get, option_and_then}
 use Rattle.std.specs.declared.cmp.Ordering.TheVariants.{Less, Equal, Greater}
 use Rattle.std.proofs.lemmas.Bool.Decides.{nat_tests}
 use Rattle.std.proofs.lemmas.Option.{none-some}
 use Rattle.hog_value.specs.declared.value.Kind.{Kind}
-use Rattle.hog_value.specs.declared.native.Native.TheVariants.{Keys, Values, Length}
+use Rattle.hog_value.specs.declared.native.Native.TheVariants.{Values, Length}
 use Rattle.hog_value.specs.Values.{Val}
-use Rattle.hog_value.specs.declared.value.Value.TheVariants.{Null, Bool as Truth, Int, Ref}
+use Rattle.hog_value.specs.declared.value.Value.TheVariants.{Bool as Truth, Int, Ref}
 use Rattle.hog_value.specs.Meters.{Spent, max_units}
 use Rattle.hog_value.specs.Cells.{CellOf, Text, Array, Dict, Fun, HeapOf, items_of, items_at, cost_of_cell}
 use Rattle.hog_value.specs.Operations as op
@@ -20,7 +18,7 @@ use Rattle.hog_library.specs.Cells.{thrown}
 use Rattle.hog_library.specs.Given.{argument, cell_given, with_given}
 use Rattle.hog_library.specs.Natives.{size_of, length_called, values_of_cell, values_called}
 use Rattle.hog_tree.specs.declared.tree.BinaryOp.TheVariants as b
-use Rattle.hog_meaning.specs.Operators.{in_range, checked, operated, is_greater}
+use Rattle.hog_meaning.specs.Operators.{operated, is_greater}
 use Rattle.hog_meaning.specs.World as m
 use Rattle.hog_meaning.specs.World.{Closure, World, Got, Gives, Throws, Waits, Spends, thrown_as, throw_made, throws, spent_at}
 use Rattle.hog_meaning.specs.Meaning.{of_native, call_native}

@@ -1,6 +1,6 @@
 -- A call of a value: its kind, its count of arguments, the turn and the depth, and then the body's run.
-use Rattle.std.proofs.Common.{◌≡◌, ◌≢◌, ℕ, zero, suc, ◌+◌, ◌-◌, ◌<◌, ◌≤◌, List, [], ◌∷◌, ◌++◌, length, map, replicate, Option, Some, None, Bool, true, false, cond, refl, sym, ap, ◌∙◌, subst, ◌⊎◌, inl, inr, ⊎_elim, arith, length-append, append_assoc, append-nil}
-use Rattle.std.specs.Prelude.{◌*◌, nat_lt, nat_le, option_and_then, option_map, unwrap_or, slice_get}
+use Rattle.std.proofs.Common.{◌≡◌, ℕ, suc, ◌+◌, ◌-◌, ◌<◌, ◌≤◌, List, [], ◌∷◌, ◌++◌, length, replicate, Option, Some, None, Bool, true, false, cond, refl, sym, ap, ◌∙◌, subst, arith}
+use Rattle.std.specs.Prelude.{nat_lt, nat_le, option_and_then, option_map, unwrap_or, slice_get}
 use Rattle.std.proofs.lemmas.Bool.Decides.{nat_tests}
 use Rattle.std.proofs.lemmas.Option.{slice_get-map}
 use Rattle.hog_value.specs.declared.cell.FunCell.{FunCell}
@@ -8,44 +8,32 @@ use Rattle.hog_value.specs.declared.value.Kind.TheVariants.{TypeError, ArgumentE
 use Rattle.hog_value.specs.declared.trace.End.TheVariants as end
 use Rattle.hog_value.specs.Values.{Val}
 use Rattle.hog_value.specs.declared.value.Value.TheVariants.{Null, Bool as Truth, Int, Ref}
-use Rattle.hog_value.specs.Meters.{max_turns, max_depth, max_units}
-use Rattle.hog_value.specs.Cells.{CellOf, Text, Array, Dict, Fun, HeapOf, cell_map, heap_map, cost_of_cell}
-use Rattle.hog_value.specs.Operations as op
-use Rattle.hog_value.specs.Operations.{Outcome, outcome_map, made}
-use Rattle.hog_value.proofs.Naturality.{made-heap_map}
-use Rattle.hog_tree.specs.Plain.{Word, Body}
+use Rattle.hog_value.specs.Meters.{max_turns, max_depth}
+use Rattle.hog_value.specs.Cells.{CellOf, Text, Array, Dict, Fun, cell_map, heap_map}
+use Rattle.hog_tree.specs.Plain.{Word}
 use Rattle.hog_captures.specs.Frees.{without_all, body_frees}
-use Rattle.hog_captures.specs.Frames as names
-use Rattle.hog_captures.specs.Frames.{find_local, find_up, captured_of, captures_of, inner_frame, with_params}
-use Rattle.hog_compiler.specs.Code.{body_code}
+use Rattle.hog_captures.specs.Frames.{inner_frame}
 use Rattle.hog_meaning.specs.World.{Env, Closure, World, Got, Gives, and_then, Flow, GoesOn, Returns, find_var, declare, named}
 use Rattle.hog_meaning.specs.World as m
 use Rattle.hog_meaning.specs.Meaning as mean
 use Rattle.hog_meaning.specs.Meaning.{Effect, Call, bind, of_body}
-use Rattle.hog_meaning.specs.Program.{end_of}
-use Rattle.hog_ops.specs.declared.capture.Capture.{Capture}
 use Rattle.hog_ops.specs.Plain as o
 use Rattle.hog_ops.specs.Plain.{Op, Ops}
-use Rattle.hog_ops.specs.Table.{size, span}
-use Rattle.vm_course.specs.State.{Slot, Begins, Frame, State, Upvalue, header, function_in, function_at, params_in, params_at}
-use Rattle.vm_course.specs.Stack.{cut_to, push, top_of, captured_by, capture_all}
-use Rattle.vm_course.specs.Throws.{ends, throw_kind, on_outcome, with_turn}
+use Rattle.vm_course.specs.State.{Begins, State, function_in, function_at, params_at}
+use Rattle.vm_course.specs.Stack.{cut_to}
+use Rattle.vm_course.specs.Throws.{ends, throw_kind, with_turn}
 use Rattle.vm_course.specs.Step as vm
 use Rattle.vm_course.specs.Step.{step, act, on_with, on_and_push, make_function, in_place, with_arguments, call_found, call_value}
-use Rattle.hog_bridge.proofs.Words.{Sub, sub_params, sub_same, onto}
+use Rattle.hog_bridge.proofs.Words.{sub_params, sub_same, onto}
 use Rattle.hog_bridge.proofs.Resolved.{sight_of}
-use Rattle.hog_bridge.proofs.Places.{Seat, Temp, Var, place_of, up_of, stack_of, ups_of, Distinct, length-stack, temps, length-temps}
-use Rattle.hog_bridge.proofs.Ahead.{HasAt, left, left_later, left_past}
-use Rattle.hog_bridge.proofs.Heaps.{AllFuns, Keeps, keeps_append, all_append, fun_of, fun_at, fun_found}
-use Rattle.hog_bridge.proofs.Picture.{Given, Ghost, Twin, meant, built, Landing, frame, pic, phi, psi, Comes, comes_then, at_once, one_step, stays, FunOk, CapturedIs, Under, FrameIn, Lands, Ctx, landings, at, OwnLands, OuterLands, Framed, Kept, Fits, Sees, Owned, Extends, extends_same, Run, run_after, run_then, gives}
-use Rattle.hog_bridge.proofs.Steps.{floor_in, spot, pop_pic, on_pic, top_pic, floor_below, framed_push, framed_temps, kept_push, fits_push, fits_temps, op_is}
-use Rattle.hog_bridge.proofs.Parts.{Ready, ExpAt, passes, spends, kind_runs}
-use Rattle.hog_bridge.proofs.Exps.{ending}
-use Rattle.hog_bridge.proofs.Lookups.{captured_is}
+use Rattle.hog_bridge.proofs.Places.{Seat, Temp, stack_of, ups_of, Distinct, length-stack, temps, length-temps}
+use Rattle.hog_bridge.proofs.Ahead.{left, left_later, left_past}
+use Rattle.hog_bridge.proofs.Heaps.{fun_of, fun_at, fun_found}
+use Rattle.hog_bridge.proofs.Picture.{Given, Ghost, Twin, meant, built, frame, pic, comes_then, at_once, one_step, stays, FunOk, Under, Ctx, landings, at, Framed, Fits, extends_same, Run, run_after, run_then, gives}
+use Rattle.hog_bridge.proofs.Steps.{floor_in, spot, pop_pic, top_pic, floor_below, fits_push, fits_temps, op_is}
+use Rattle.hog_bridge.proofs.Parts.{Ready, ExpAt, spends, kind_runs}
 use Rattle.hog_bridge.proofs.Operators.{ready_with}
-use Rattle.hog_bridge.proofs.Writes.{becomes, kept_new, sees_local}
-use Rattle.hog_bridge.proofs.Follow.{ReturnEnds, BodyAt, Follows, run_more, body_more}
-use Rattle.hog_bridge.proofs.Captures.{Taken, take_all, taken_sees, known_names, funs_on}
+use Rattle.hog_bridge.proofs.Follow.{BodyAt, Follows, run_more, body_more}
 use Rattle.hog_bridge.proofs.Calls.{pad, bind_pad, length-pad, stack_pad, ups_over, Bounded, bind_sight, bind_runs, lands_enter, outer_enter, turn_less}
 
 -- the context of a callee

@@ -1,31 +1,28 @@
 -- Expressions: the machine follows the meaning.
-use Rattle.std.proofs.Common.{◌≡◌, ℕ, zero, suc, ◌+◌, ◌-◌, ◌<◌, ◌≤◌, ℤ, pos, List, [], ◌∷◌, ◌++◌, length, Option, Some, None, Bool, true, false, refl, sym, ap, ◌∙◌, subst, inl, inr, arith}
-use Rattle.std.specs.Prelude.{slice_get}
+use Rattle.std.proofs.Common.{◌≡◌, ℕ, suc, ◌+◌, pos, List, ◌∷◌, ◌++◌, length, Some, true, false, refl, sym, ap, ◌∙◌, subst, inl, arith}
 use Rattle.hog_value.specs.declared.native.Native.TheVariants.{Concat}
 use Rattle.hog_value.specs.Values.{Val}
-use Rattle.hog_value.specs.declared.value.Value.TheVariants as v
 use Rattle.hog_scope.specs.Words.{count_of}
-use Rattle.hog_tree.specs.declared.tree.BinaryOp.{BinaryOp}
 use Rattle.hog_tree.specs.declared.tree.BinaryOp.TheVariants as b
-use Rattle.hog_tree.specs.Plain.{Word, Exp, Exps, Parts, Pairs, Int, Truth, Null, Text, Template, Name, Array, Dict, Neg, Not, Binary, Coalesce, Prop, PropNullish, Index, Call, Lambda, NoExp, MoreExp, NoPart, MoreText, MoreHole, NoPair, MorePair}
+use Rattle.hog_tree.specs.Plain.{Exp, Exps, Parts, Pairs, Int, Truth, Null, Text, Template, Name, Array, Dict, Neg, Not, Binary, Coalesce, Prop, PropNullish, Index, Call, Lambda, NoExp, MoreExp, NoPart, MoreText, MoreHole, NoPair, MorePair}
 use Rattle.hog_captures.specs.Frees.{exp_frees, exps_frees, parts_frees, pairs_frees}
 use Rattle.hog_captures.specs.Frames.{find_local, find_up}
 use Rattle.hog_compiler.specs.Pieces.{operator_op, lambda_name}
 use Rattle.hog_compiler.specs.Code.{parts_count, pairs_count, exp_code, exps_code, parts_code, pairs_code, call_code, called_native}
-use Rattle.hog_meaning.specs.World.{Env, World, Got, Gives, and_then, find_var}
+use Rattle.hog_meaning.specs.World.{Env, World, Got, and_then, find_var}
 use Rattle.hog_meaning.specs.Meaning.{Effect, literal, value, values, parts, pairs}
 use Rattle.hog_ops.specs.Plain as o
 use Rattle.hog_ops.specs.Plain.{Op, Ops, NoOp, MoreOp, ◌⊕◌}
 use Rattle.hog_ops.specs.Table.{size, span}
-use Rattle.vm_course.specs.State.{Slot, Begins, State}
+use Rattle.vm_course.specs.State.{Begins, State}
 use Rattle.hog_bridge.proofs.Words.{In, Sub, sub_left, sub_right}
 use Rattle.hog_bridge.proofs.Resolved.{CalleeOk, ExpOk, ExpsOk, PartsOk, PairsOk}
-use Rattle.hog_bridge.proofs.Places.{Seat, Temp, Var, temps}
+use Rattle.hog_bridge.proofs.Places.{Seat, Temp, temps}
 use Rattle.hog_bridge.proofs.Ahead.{HasAt, has_front, has_back, span-after}
-use Rattle.hog_bridge.proofs.Picture.{Given, Ghost, Landing, comes_then, stays, Under, under_less, Ctx, landings, at, Kept, Fits, Extends, extends_same, Run, run_after, run_then, gives}
-use Rattle.hog_bridge.proofs.Steps.{kept_on, kept_push, fits_push, fits_temps}
+use Rattle.hog_bridge.proofs.Picture.{Given, Ghost, Landing, stays, Under, under_less, Ctx, landings, at, Kept, Fits, Extends, extends_same, Run, run_after, run_then, gives}
+use Rattle.hog_bridge.proofs.Steps.{kept_on, fits_push, fits_temps}
 use Rattle.hog_bridge.proofs.Parts.{ExpAt}
-use Rattle.hog_bridge.proofs.Exps.{ExpsAt, exp_then, exps_then, fits_on, kept_temps}
+use Rattle.hog_bridge.proofs.Exps.{ExpsAt, exp_then, exps_then, fits_on}
 use Rattle.hog_bridge.proofs.Lookups.{integer_runs, text_runs, null_runs, true_runs, false_runs}
 use Rattle.hog_bridge.proofs.Operators.{ready_with, in_row, text_step, integer_step, name_runs, operator_runs, get_item_runs, property_runs, nullish_runs, not_runs, minus_runs, and_runs, or_runs, array_runs, dict_runs, native_call_runs}
 use Rattle.hog_bridge.proofs.Follow.{Follows}

@@ -1,48 +1,26 @@
 -- Operations of expressions on the picture.
-use Rattle.std.proofs.Common.{◌≡◌, ℕ, zero, suc, ◌+◌, ◌-◌, ◌<◌, ◌≤◌, ℤ, pos, List, [], ◌∷◌, ◌++◌, length, map, Option, Some, None, Bool, true, false, cond, Result, Ok, Err, refl, sym, ap, ◌∙◌, subst, arith, append-nil}
-use Rattle.std.specs.Prelude.{◌&&◌, ◌||◌, not, option_and_then, reverse, nat_le, slice_get, count_by}
-use Rattle.std.proofs.lemmas.List.{reverse-reverse}
-use Rattle.std.proofs.lemmas.Option.{slice_get-map}
-use Rattle.hog_value.specs.declared.cell.FunCell.{FunCell}
-use Rattle.hog_value.specs.declared.native.Native.{Native}
+use Rattle.std.proofs.Common.{◌≡◌, ℕ, zero, suc, ◌<◌, ◌≤◌, List, [], ◌∷◌, ◌++◌, length, Option, Some, None, Result, refl, sym, ap, ◌∙◌, subst, arith}
+use Rattle.std.specs.Prelude.{slice_get}
 use Rattle.hog_value.specs.declared.value.Kind.{Kind}
-use Rattle.hog_value.specs.declared.trace.End.TheVariants as end
 use Rattle.hog_value.specs.Values.{Val}
-use Rattle.hog_value.specs.declared.value.Value.TheVariants.{Null, Bool as Truth, Int, Ref}
-use Rattle.hog_value.specs.Cells.{CellOf, Text, Array, Dict, Fun, HeapOf, cell_map, heap_map, text_at}
-use Rattle.hog_value.specs.Operations.{Outcome, outcome_map, made, key_of, truth_of}
-use Rattle.hog_value.proofs.Naturality.{text_at-heap_map, made-heap_map, key_of-heap_map, truth_of-heap_map}
-use Rattle.hog_json.specs.Texts.{named_text}
-use Rattle.hog_library.specs.Called as native
-use Rattle.hog_library.specs.Called.{called}
-use Rattle.hog_library.proofs.CalledNaturality.{called-heap_map}
-use Rattle.hog_library.proofs.CalledGrowing.{called-grows}
+use Rattle.hog_value.specs.Cells.{HeapOf, heap_map}
+use Rattle.hog_value.specs.Operations.{Outcome, outcome_map}
 use Rattle.hog_tree.specs.Plain.{Word}
 use Rattle.hog_captures.specs.Frames as names
 use Rattle.hog_captures.specs.Frames.{find_local, find_up}
-use Rattle.hog_compiler.specs.Pieces.{read_code}
-use Rattle.hog_meaning.specs.Operators.{operated, accessed, negated, property_of, nullish_property_of, dictionary_made}
 use Rattle.hog_meaning.specs.World.{Env, World, Got, Gives, and_then, find_var, read_var}
 use Rattle.hog_meaning.specs.World as m
-use Rattle.hog_meaning.specs.Meaning.{place_in, most_requests, is_request, is_fetch, is_null, call_native, read_word}
-use Rattle.hog_meaning.specs.Meaning as e
-use Rattle.hog_ops.specs.Plain as o
-use Rattle.hog_ops.specs.Plain.{Op, Ops, NoOp, MoreOp}
-use Rattle.hog_ops.specs.Table.{size, span}
-use Rattle.vm_course.specs.State.{Slot, Begins, Frame, State, Upvalue, Opened, Closed, function_in, function_at}
-use Rattle.vm_course.specs.Stack.{value_at, or_null, cut_to, push, top_of, taken, captured_in, captured_by, upvalue_of, upvalue_value}
-use Rattle.vm_course.specs.Throws.{ends, goto, on_result, on_outcome}
+use Rattle.hog_ops.specs.Plain.{Op}
+use Rattle.vm_course.specs.State.{Begins, State}
+use Rattle.vm_course.specs.Stack.{push}
+use Rattle.vm_course.specs.Throws.{on_result, on_outcome}
 use Rattle.vm_course.specs.Step as vm
 use Rattle.vm_course.specs.Step.{step, act, on_with, on_and_push, property_path, global_of, get_global, spent_by, call_global}
-use Rattle.hog_bridge.proofs.Words.{In}
-use Rattle.hog_bridge.proofs.Places.{Seat, Temp, Var, read, shown_seat, seat_at, place_of, up_of, up_of_place, stack_of, ups_of, Distinct, placed, value_seat, lower, temps, distinct_temps}
-use Rattle.hog_bridge.proofs.Ahead.{HasAt, left}
-use Rattle.hog_bridge.proofs.Heaps.{AllFuns, Keeps, keeps_grows, Fair, fun_of, fun_at, called_fair}
-use Rattle.hog_bridge.proofs.Turns.{called_turns}
-use Rattle.hog_bridge.proofs.Operated.{operated-heap_map, accessed-heap_map}
-use Rattle.hog_bridge.proofs.Picture.{Given, Ghost, Twin, meant, built, Landing, frame, pic, phi, psi, Comes, comes_then, one_step, stays, FunOk, CapturedIs, Under, under_less, UpSees, SeesWord, Sees, Ctx, landings, at, Framed, Kept, Fits, Extends, extends_same, extends_then, Run, run_after, run_then, gives}
-use Rattle.hog_bridge.proofs.Steps.{floor_in, spot, pop_pic, on_pic, top_pic, taken_pic, kept_on, kept_push, fits_push, fits_temps, op_is}
-use Rattle.hog_bridge.proofs.Parts.{Ready, ExpAt, passes, spends, kind_runs, result_runs, outcome_runs, native_runs}
+use Rattle.hog_bridge.proofs.Places.{Seat, Temp, stack_of, lower, temps, distinct_temps}
+use Rattle.hog_bridge.proofs.Heaps.{Keeps, Fair}
+use Rattle.hog_bridge.proofs.Picture.{Given, Ghost, Twin, meant, built, Landing, psi, Comes, one_step, FunOk, CapturedIs, Under, under_less, UpSees, SeesWord, Sees, Ctx, landings, at, Kept, Fits, Extends, Run, run_then, gives}
+use Rattle.hog_bridge.proofs.Steps.{spot, on_pic, kept_on}
+use Rattle.hog_bridge.proofs.Parts.{Ready, ExpAt, passes, result_runs, outcome_runs}
 
 -- later in the same frame
 

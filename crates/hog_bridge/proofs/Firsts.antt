@@ -1,10 +1,9 @@
 -- The first cells of a run: the same on both sides, without functions, and with each literal text in its place.
-use Rattle.std.proofs.Common.{◌≡◌, ℕ, zero, suc, ◌+◌, List, [], ◌∷◌, ◌++◌, length, map, Option, Some, None, Bool, true, false, cond, refl, sym, ap, ◌∙◌, subst, ◌⊎◌, inl, inr, append_assoc, append-nil}
-use Rattle.std.specs.Prelude.{bytes_eq, slice_get}
-use Rattle.serde_json.specs.Data.{Data}
+use Rattle.std.proofs.Common.{◌≡◌, ℕ, suc, List, [], ◌∷◌, ◌++◌, Some, cond, refl, sym, ap, ◌∙◌, subst, ◌⊎◌, inl, inr, append_assoc, append-nil}
+use Rattle.std.specs.Prelude.{bytes_eq}
 use Rattle.hog_value.specs.Values.{Val}
-use Rattle.hog_value.specs.Cells.{CellOf, Text, HeapOf, heap_map, text_at}
-use Rattle.hog_value.specs.Operations.{Outcome, Gives, Throws, Spends, outcome_map, made}
+use Rattle.hog_value.specs.Cells.{Text, HeapOf, heap_map, text_at}
+use Rattle.hog_value.specs.Operations.{Outcome, Gives, Throws, Spends, outcome_map}
 use Rattle.hog_json.specs.Reading.{outcome_and_then, read_cells, kept_value, Grows}
 use Rattle.hog_json.proofs.Naturality.{outcome_map-outcome_and_then, read_cells-heap_map}
 use Rattle.hog_json.proofs.Growing.{read_cells-grows}
@@ -14,7 +13,7 @@ use Rattle.hog_tree.specs.Plain.{Word}
 use Rattle.hog_meaning.specs.Meaning.{place_in}
 use Rattle.hog_meaning.specs.Program.{first_cells}
 use Rattle.hog_bridge.proofs.Words.{In, Tells, word_tells}
-use Rattle.hog_bridge.proofs.Heaps.{AllFuns, FunsFair, natural_fair}
+use Rattle.hog_bridge.proofs.Heaps.{FunsFair, natural_fair}
 use Rattle.hog_bridge.proofs.Calls.{made_either}
 
 abbrev cells_from : {F : Type 0} → List Word → List ℕ → HeapOf F → Outcome F Val

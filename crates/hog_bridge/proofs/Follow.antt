@@ -1,10 +1,10 @@
 -- What a statement's run comes to, and what is assumed of runs with fewer turns.
-use Rattle.std.proofs.Common.{◌≡◌, ℕ, zero, suc, ◌+◌, ◌<◌, ◌≤◌, ℤ, pos, List, [], ◌∷◌, ◌++◌, length, Option, Some, None, true, false, refl, sym, ap, ◌∙◌, subst, arith}
+use Rattle.std.proofs.Common.{◌≡◌, ℕ, suc, ◌+◌, ◌<◌, ◌≤◌, ℤ, pos, List, [], ◌∷◌, ◌++◌, length, Option, Some, None, true, false, arith}
 use Rattle.hog_value.specs.declared.trace.End.TheVariants as end
 use Rattle.hog_value.specs.Values.{Val}
 use Rattle.hog_value.specs.declared.value.Value.TheVariants.{Int}
-use Rattle.hog_value.specs.Meters.{max_units, max_turns}
-use Rattle.hog_tree.specs.Plain.{Word, Exp, Stm, Stms, Body, OptionExp, OptionStm, While}
+use Rattle.hog_value.specs.Meters.{max_units}
+use Rattle.hog_tree.specs.Plain.{Word, Exp, Stms, Body, OptionExp, OptionStm, While}
 use Rattle.hog_captures.specs.Frees.{stm_frees, stms_frees, body_frees, option_exp_frees, option_stm_frees, without, without_name}
 use Rattle.hog_captures.specs.Frames as names
 use Rattle.hog_captures.specs.Frames.{with_local, with_name, with_hidden}
@@ -19,9 +19,9 @@ use Rattle.hog_ops.specs.Table.{span}
 use Rattle.vm_course.specs.State.{Frame, Ended, State}
 use Rattle.hog_bridge.proofs.Words.{Sub, with_word}
 use Rattle.hog_bridge.proofs.Resolved.{StmOk, StmsOk, BodyOk, OptionExpOk, OptionStmOk}
-use Rattle.hog_bridge.proofs.Places.{Seat, Temp, Var}
+use Rattle.hog_bridge.proofs.Places.{Seat, Temp}
 use Rattle.hog_bridge.proofs.Ahead.{HasAt}
-use Rattle.hog_bridge.proofs.Picture.{Given, Ghost, Landing, pic, Under, Ctx, landings, at, Framed, Kept, Fits, Reaches, Caught, ThrowEnds, Ends, Run, reaches_after, gives}
+use Rattle.hog_bridge.proofs.Picture.{Given, Ghost, Landing, pic, Under, Ctx, landings, at, Framed, Kept, Fits, Reaches, ThrowEnds, Ends, Run, reaches_after}
 
 -- the context with another frame of names and other words
 abbrev pub scoped : Ctx → names.Frame → List Word → List Word → Ctx

@@ -1,5 +1,5 @@
 -- No operation takes anything back from the trace.
-use Rattle.std.proofs.Common.{◌≡◌, ℕ, zero, suc, ◌+◌, ◌-◌, ◌≤◌, ℤ, pos, negsuc, List, [], ◌∷◌, ◌++◌, length, Option, Some, None, Bool, true, false, cond, Result, Ok, Err, refl, sym, ap, ◌∙◌, subst, arith, append_assoc, append-nil}
+use Rattle.std.proofs.Common.{◌≡◌, ℕ, zero, suc, ◌+◌, ℤ, pos, negsuc, List, [], ◌∷◌, ◌++◌, length, Option, Some, None, Bool, true, false, cond, Result, Ok, Err, refl, sym, ap, ◌∙◌, append_assoc, append-nil}
 use Rattle.std.specs.Prelude.{◌&&◌, nat_lt, nat_le, unwrap_or, slice_get, reverse, count_by}
 use Rattle.hog_value.specs.declared.cell.FunCell.{FunCell}
 use Rattle.hog_value.specs.declared.native.Native.{Native}
@@ -28,8 +28,8 @@ use Rattle.hog_meaning.specs.Operators.{operated, accessed, assigned, dictionary
 use Rattle.hog_meaning.specs.World.{Fixed, Reply}
 use Rattle.hog_meaning.specs.Meaning.{most_requests, is_request, is_fetch, is_null}
 use Rattle.vm_course.specs.State.{Slot, Begins, BodyEnds, Operand, Upvalue, Opened, Closed, Frame, ThrowFrame, Running, Waiting, Ended, Mode, State, header, function_at, params_at}
-use Rattle.vm_course.specs.Stack.{keep, push, cut_to, top_of, taken, captured_by, capture_all, write_to, write_numbered, write_upvalue}
-use Rattle.vm_course.specs.Throws.{ends, with_heap, ends_shown, caught, throw_to, throw_value, throw_made, throw_kind, on_result, on_outcome, with_turn}
+use Rattle.vm_course.specs.Stack.{keep, push, cut_to, top_of, taken, captured_by, capture_all, write_to, write_numbered}
+use Rattle.vm_course.specs.Throws.{ends, with_heap, ends_shown, caught, throw_to, throw_made, throw_kind, on_result, on_outcome, with_turn}
 use Rattle.vm_course.specs.Step.{Here, on_with, on_and_push, jump, jump_or_back, in_pairs, enter, get_global, of_native, call_global, call_function, call_found, call_value, give_back, make_function, act, at_slot, here_at, in_frames, take_reply, step_in, step, property_path, global_of, spent_by, binary}
 use Rattle.vm_course.specs.Course.{steps}
 

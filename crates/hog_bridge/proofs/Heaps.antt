@@ -1,5 +1,5 @@
 -- What operations on a heap keep: texts and functions stay at their places, and no functions come but those that were there.
-use Rattle.std.proofs.Common.{◌≡◌, ℕ, zero, suc, ◌+◌, List, [], ◌∷◌, ◌++◌, length, map, Option, Some, None, Bool, true, false, cond, refl, sym, ap, ◌∙◌, subst}
+use Rattle.std.proofs.Common.{◌≡◌, ℕ, zero, suc, ◌+◌, List, [], ◌∷◌, ◌++◌, length, Option, Some, None, Bool, true, false, cond, refl, sym, ◌∙◌, subst}
 use Rattle.std.specs.Prelude.{slice_get, slice_set, option_and_then, nat_le}
 use Rattle.std.proofs.lemmas.Option.{none-some}
 use Rattle.hog_value.specs.declared.value.Kind.{Kind}

@@ -21,7 +21,6 @@ use Rattle.hog_scope.specs.Literals.{in_byte_order}
 use Rattle.hog_scope.specs.Scopes.{items_of}
 use Rattle.hog_meaning.specs.Program.{texts_by, texts_in}
 use Rattle.vm_course.specs.Course.{op_texts, texts, literals_of_code}
-use Rattle.hog_bridge.specs.Steady.{StmsSteady}
 use Rattle.hog_bridge.proofs.Words.{with_word, onto}
 use Rattle.hog_bridge.proofs.Sights.{read_texts}
 use Rattle.hog_bridge.proofs.Scopes.{but_name, exp_texts, exps_texts, parts_texts, pairs_texts, body_texts, stm_texts, stms_texts, option_exp_texts, option_stm_texts, scoped}
@@ -370,10 +369,10 @@ mutual
   option_stm_has fr V (SomeStm s) a = stm_has fr V s a
 
 -- the texts of a program's code are those of its tree
-pub same_literals : (program : Stms) (items : List Item) → StmsSteady program → items_of program ≡ Ok items → literals_of_code (code_of program) ≡ texts_in program
+pub same_literals : (program : Stms) (items : List Item) → items_of program ≡ Ok items → literals_of_code (code_of program) ≡ texts_in program
 unfolding code_of
-same_literals program items s is =
+same_literals program items is =
     let code : Has (stms_code first_frame program ⊕ return_null) (stms_texts [] program) = behind return_null refl (stms_has first_frame [] program (record { same = λ w h. refl })) in
     one_set (texts (stms_code first_frame program ⊕ return_null)) (stms_texts [] program) code.alike
-    ∙ ap in_byte_order (sym (scoped program items s is).texts)
+    ∙ ap in_byte_order (sym (scoped program items is).texts)
     ∙ ap (texts_by program) (sym is)

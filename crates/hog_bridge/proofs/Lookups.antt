@@ -1,46 +1,28 @@
 -- Words, texts and operators on the picture.
-use Rattle.std.proofs.Common.{◌≡◌, ℕ, zero, suc, ◌+◌, ◌-◌, ◌<◌, ◌≤◌, ℤ, pos, List, [], ◌∷◌, ◌++◌, length, map, Option, Some, None, Bool, true, false, cond, Result, Ok, Err, refl, sym, ap, ◌∙◌, subst, arith, append-nil}
-use Rattle.std.specs.Prelude.{◌&&◌, ◌||◌, not, option_and_then, option_map, reverse, nat_le, slice_get, count_by}
-use Rattle.std.proofs.lemmas.List.{reverse-reverse}
+use Rattle.std.proofs.Common.{◌≡◌, ℕ, ◌+◌, ℤ, List, [], Option, Some, None, true, false, refl, sym, ap, ◌∙◌, arith}
+use Rattle.std.specs.Prelude.{option_and_then, option_map, slice_get}
 use Rattle.std.proofs.lemmas.Option.{slice_get-map}
-use Rattle.hog_value.specs.declared.cell.FunCell.{FunCell}
-use Rattle.hog_value.specs.declared.native.Native.{Native}
-use Rattle.hog_value.specs.declared.value.Kind.{Kind}
-use Rattle.hog_value.specs.declared.value.Kind.TheVariants.{TypeError}
-use Rattle.hog_value.specs.declared.trace.End.TheVariants as end
 use Rattle.hog_value.specs.Values.{Val}
 use Rattle.hog_value.specs.declared.value.Value.TheVariants.{Null, Bool as Truth, Int, Ref}
-use Rattle.hog_value.specs.Cells.{CellOf, Text, Array, Dict, Fun, HeapOf, cell_map, heap_map, text_at}
-use Rattle.hog_value.specs.Operations.{Outcome, outcome_map, made, key_of, truth_of}
-use Rattle.hog_value.proofs.Naturality.{text_at-heap_map, made-heap_map, key_of-heap_map, truth_of-heap_map}
-use Rattle.hog_library.specs.Called as native
-use Rattle.hog_library.specs.Called.{called}
-use Rattle.hog_library.proofs.CalledNaturality.{called-heap_map}
-use Rattle.hog_library.proofs.CalledGrowing.{called-grows}
+use Rattle.hog_value.specs.Cells.{CellOf, Text, Array, Dict, Fun, cell_map, heap_map, text_at}
+use Rattle.hog_value.specs.Operations.{key_of, truth_of}
+use Rattle.hog_value.proofs.Naturality.{text_at-heap_map, key_of-heap_map, truth_of-heap_map}
 use Rattle.hog_tree.specs.declared.tree.BinaryOp.{BinaryOp}
-use Rattle.hog_tree.specs.declared.tree.BinaryOp.TheVariants as b
-use Rattle.hog_tree.specs.Plain.{Word}
-use Rattle.hog_compiler.specs.Pieces.{read_code, operator_op, is_left_first}
-use Rattle.hog_meaning.specs.Operators.{operated, accessed, negated, property_of, nullish_property_of, read_by, dictionary_made}
-use Rattle.hog_meaning.specs.World.{Env, World, Got, Gives, and_then}
-use Rattle.hog_meaning.specs.World as m
-use Rattle.hog_meaning.specs.Meaning.{place_in, literal, most_requests, is_request, is_fetch, is_null, call_native, read_word}
+use Rattle.hog_meaning.specs.Operators.{operated, accessed}
+use Rattle.hog_meaning.specs.World.{World, Gives}
+use Rattle.hog_meaning.specs.Meaning.{place_in, literal}
 use Rattle.hog_ops.specs.Plain as o
 use Rattle.hog_ops.specs.Plain.{Op, Ops, NoOp, MoreOp}
-use Rattle.vm_course.specs.State.{Slot, Begins, State, Upvalue, Opened, Closed, function_in, function_at}
-use Rattle.vm_course.specs.Stack.{value_at, or_null, push, top_of, taken, captured_in, captured_by, upvalue_of, upvalue_value}
-use Rattle.vm_course.specs.Throws.{ends, on_result, on_outcome}
-use Rattle.vm_course.specs.Step as vm
-use Rattle.vm_course.specs.Step.{step, act, on_with, on_and_push, property_path, global_of, get_global, spent_by, call_global, binary}
-use Rattle.hog_bridge.proofs.Places.{Seat, Temp, Var, read, shown_seat, seat_at, place_of, up_of, up_of_place, stack_of, ups_of, placed, value_seat, temps}
-use Rattle.hog_bridge.proofs.Ahead.{HasAt}
-use Rattle.hog_bridge.proofs.Heaps.{keeps_grows, fun_at, fun_of, called_fair}
-use Rattle.hog_bridge.proofs.Turns.{called_turns}
+use Rattle.vm_course.specs.State.{Begins, function_in, function_at}
+use Rattle.vm_course.specs.Stack.{or_null, taken, captured_in, captured_by, upvalue_of, upvalue_value}
+use Rattle.vm_course.specs.Step.{act, on_and_push}
+use Rattle.hog_bridge.proofs.Places.{Seat, read, shown_seat, seat_at, place_of, up_of, up_of_place, stack_of, ups_of, placed, value_seat}
+use Rattle.hog_bridge.proofs.Heaps.{fun_at, fun_of}
 use Rattle.hog_bridge.proofs.Operated.{operated-heap_map, accessed-heap_map}
-use Rattle.hog_bridge.proofs.Picture.{Given, Ghost, Twin, meant, built, Landing, frame, Comes, FunOk, CapturedIs, Under, under_less, SeesWord, Ctx, landings, at, Framed, Kept, Fits, Run, run_after, extends_same}
-use Rattle.hog_bridge.proofs.Steps.{floor_in, spot, top_pic, taken_pic, framed_push, kept_push, fits_push, fits_temps, framed_temps, op_is}
-use Rattle.hog_bridge.proofs.Parts.{Ready, ExpAt, spends, native_runs}
-use Rattle.hog_bridge.proofs.Exps.{value_step, value_runs, value_result, value_outcome, ready, ending}
+use Rattle.hog_bridge.proofs.Picture.{Given, Ghost, Twin, meant, built, frame, CapturedIs, Ctx, landings, at, Kept, Run}
+use Rattle.hog_bridge.proofs.Steps.{spot, op_is}
+use Rattle.hog_bridge.proofs.Parts.{Ready, ExpAt}
+use Rattle.hog_bridge.proofs.Exps.{value_runs, ending}
 
 module _ {g : Given} {n : ℕ} {L : List Seat} {G : Ghost} {w : World} (k : Kept g n L G w) where
   pub key_same : (cell : ℕ) (t : List ℕ) → key_of (heap_map built G.heap) cell t ≡ key_of w.heap cell t

@@ -1,37 +1,37 @@
 -- Tries and loops on the picture.
-use Rattle.std.proofs.Common.{◌≡◌, ℕ, zero, suc, ◌+◌, ◌-◌, ◌<◌, ◌≤◌, ℤ, pos, negsuc, neg_ℤ, List, [], ◌∷◌, ◌++◌, length, Option, Some, None, Bool, true, false, cond, refl, sym, ap, ◌∙◌, subst, inl, inr, arith, length-append}
-use Rattle.std.specs.Prelude.{◌*◌, ◌==◌, nat_lt, slice_get}
+use Rattle.std.proofs.Common.{◌≡◌, ℕ, suc, ◌+◌, ◌-◌, ◌<◌, ◌≤◌, pos, negsuc, neg_ℤ, List, [], ◌∷◌, ◌++◌, length, Some, Bool, true, false, cond, refl, sym, ap, ◌∙◌, subst, inl, arith}
+use Rattle.std.specs.Prelude.{◌==◌, nat_lt, slice_get}
 use Rattle.std.proofs.lemmas.Bool.Decides.{nat_tests}
 use Rattle.hog_value.specs.declared.trace.End.TheVariants as end
 use Rattle.hog_value.specs.Values.{Val}
 use Rattle.hog_value.specs.Meters.{max_turns}
 use Rattle.hog_value.specs.Operations.{truth_of}
 use Rattle.hog_tree.specs.Plain.{Word, Exp, Stms, OptionExp, OptionStm, While}
-use Rattle.hog_captures.specs.Frees.{stm_frees, stms_frees}
+use Rattle.hog_captures.specs.Frees.{stm_frees}
 use Rattle.hog_captures.specs.Frames as names
 use Rattle.hog_compiler.specs.Pieces.{loop_code, one}
 use Rattle.hog_compiler.specs.Code.{stm_code}
 use Rattle.hog_meaning.specs.World.{Env, World, Got, Gives, Throws, Waits, Spends, and_then, Flow, GoesOn, Returns}
 use Rattle.hog_meaning.specs.World as m
-use Rattle.hog_meaning.specs.Meaning.{Effect, Loop, LoopWithStep, leave, on_flow, catch, run_for}
+use Rattle.hog_meaning.specs.Meaning.{Effect, Loop, LoopWithStep, on_flow, catch}
 use Rattle.hog_ops.specs.Plain as o
 use Rattle.hog_ops.specs.Plain.{Op, Ops, NoOp, MoreOp, ◌⊕◌}
-use Rattle.hog_ops.specs.Table.{size, span}
-use Rattle.vm_course.specs.State.{Slot, Begins, Frame, State, ThrowFrame}
-use Rattle.vm_course.specs.Throws.{ends, goto, with_turn}
-use Rattle.vm_course.specs.Step.{step, act, on_with, jump, jump_or_back, place_at, without_try}
+use Rattle.hog_ops.specs.Table.{span}
+use Rattle.vm_course.specs.State.{Begins, State, ThrowFrame}
+use Rattle.vm_course.specs.Throws.{ends}
+use Rattle.vm_course.specs.Step.{step, act, jump, jump_or_back, without_try}
 use Rattle.hog_bridge.proofs.Words.{Sub}
 use Rattle.hog_bridge.proofs.Resolved.{StmOk, StmsOk, OptionExpOk, OptionStmOk}
-use Rattle.hog_bridge.proofs.Places.{Seat, Temp, Var, stack_of, length-stack}
+use Rattle.hog_bridge.proofs.Places.{Seat, Temp, stack_of, length-stack}
 use Rattle.hog_bridge.proofs.Ahead.{HasAt, has_front, has_back, span-after, left, left_past, left_later}
-use Rattle.hog_bridge.proofs.Picture.{Given, Ghost, Landing, throws_of, frame, pic, phi, psi, Comes, comes_then, comes_to, at_once, one_step, stays, Under, under_less, Ctx, landings, at, OwnLands, Framed, Kept, Fits, Ends, Extends, extends_same, Reaches, Run, run_after, run_then, gives}
+use Rattle.hog_bridge.proofs.Picture.{Given, Ghost, Landing, throws_of, Comes, comes_then, comes_to, at_once, one_step, stays, Under, Ctx, landings, at, Framed, Kept, Fits, Ends, Extends, extends_same, Reaches, Run, run_after}
 use Rattle.hog_bridge.proofs.Steps.{spot, on_pic, op_is}
-use Rattle.hog_bridge.proofs.Parts.{Ready, ExpAt, passes, spends}
+use Rattle.hog_bridge.proofs.Parts.{ExpAt, passes, spends}
 use Rattle.hog_bridge.proofs.Exps.{exp_then, fits_on}
 use Rattle.hog_bridge.proofs.Operators.{ready_with}
-use Rattle.hog_bridge.proofs.Follow.{scoped, GoneOn, StmAt, Follows, run_more, stm_more, for_loop, for_words, framed_scope}
+use Rattle.hog_bridge.proofs.Follow.{StmAt, Follows, run_more, stm_more, for_loop, for_words}
 use Rattle.hog_bridge.proofs.Calls.{turn_less}
-use Rattle.hog_bridge.proofs.Blocks.{PlainEnd, plain, stm_then, test_step, goto_step}
+use Rattle.hog_bridge.proofs.Blocks.{PlainEnd, stm_then, test_step, goto_step}
 
 -- at the landing of a `try`
 abbrev pub landing_of : Ctx → ℕ → List Seat → Landing

@@ -1,5 +1,5 @@
 -- Operators, access and setting look into no function, and keep texts and functions.
-use Rattle.std.proofs.Common.{◌≡◌, ℕ, zero, suc, ◌+◌, ℤ, List, [], ◌∷◌, ◌++◌, length, Bool, true, false, cond, Option, Some, None, Result, Ok, Err, refl, sym, ap, ap₂, ◌∙◌, subst}
+use Rattle.std.proofs.Common.{◌≡◌, ℕ, zero, suc, ◌+◌, ℤ, List, [], ◌∷◌, ◌++◌, length, Bool, true, false, cond, Option, Some, None, Result, Ok, Err, refl, ap, ap₂, ◌∙◌}
 use Rattle.std.specs.Prelude.{◌||◌, ◌&&◌, ◌==◌, is_some, not, nat_lt, nat_le, option_and_then, option_map, slice_get, slice_set, bytes_eq}
 use Rattle.std.specs.List.{list_any}
 use Rattle.std.specs.Map.{lookup}
@@ -7,12 +7,11 @@ use Rattle.std.specs.declared.cmp.Ordering.{Ordering}
 use Rattle.std.proofs.lemmas.Option.{none-some, slice_get-map}
 use Rattle.indexmap.specs.IndexMap.{insert_entry}
 use Rattle.hog_value.specs.declared.value.Kind.{Kind}
-use Rattle.hog_value.specs.declared.value.Kind.TheVariants.{IndexError}
 use Rattle.hog_value.specs.Values.{Val}
 use Rattle.hog_value.specs.declared.value.Value.TheVariants.{Null, Bool as Truth, Int, Ref}
 use Rattle.hog_value.specs.Meters.{max_units}
 use Rattle.hog_value.specs.Cells.{CellOf, Text, Array, Dict, Fun, HeapOf, cell_map, heap_map, text_of, items_of, pairs_of, text_at, items_at, pairs_at, cost_of_pair}
-use Rattle.hog_value.specs.Operations.{Outcome, Gives, Throws, Spends, outcome_map, charged, made, key_of, item_of, set_item_in, set_item_of, set_key_in, set_key_of, place_of, same_of, truth_of}
+use Rattle.hog_value.specs.Operations.{Outcome, Gives, Spends, outcome_map, charged, made, key_of, set_item_in, set_item_of, set_key_in, set_key_of, place_of}
 use Rattle.hog_value.proofs.Naturality.{text_at-heap_map, made-heap_map, item_of-heap_map, key_of-heap_map, set_item_of-heap_map, set_key_of-heap_map, same_of-heap_map, truth_of-heap_map}
 use Rattle.hog_json.specs.Texts.{named_text}
 use Rattle.hog_library.proofs.TextNaturality.{text_same}
@@ -20,7 +19,7 @@ use Rattle.hog_tree.specs.declared.tree.BinaryOp.{BinaryOp}
 use Rattle.hog_tree.specs.declared.tree.BinaryOp.TheVariants as o
 use Rattle.hog_meaning.specs.Operators as m
 use Rattle.hog_meaning.specs.Operators.{order_of, order_of_texts, tested, compared, is_in_cell, is_in, has_key, part_of, truth_result, operated, read_by, set_by, outcome_of, accessed, property_of, nullish_property_of, assigned, property_assigned, dictionary_made}
-use Rattle.hog_bridge.proofs.Heaps.{fun_of, fun_at, FunIs, AllFuns, Keeps, keeps_set, Fair, FunsFair, made_fair}
+use Rattle.hog_bridge.proofs.Heaps.{fun_of, FunIs, AllFuns, keeps_set, Fair, made_fair}
 
 module _ {F G : Type 0} (f : F → G) (h : HeapOf F) where
   order_same : (x y : Val) → order_of (heap_map f h) x y ≡ order_of h x y

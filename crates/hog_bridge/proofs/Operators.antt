@@ -1,18 +1,15 @@
 -- Globals, operators, access, arrays, dictionaries and natives on the picture.
-use Rattle.std.proofs.Common.{◌≡◌, ℕ, zero, suc, ◌+◌, ◌-◌, ◌<◌, ◌≤◌, ℤ, pos, List, [], ◌∷◌, ◌++◌, length, map, Option, Some, None, Bool, true, false, cond, Result, Ok, Err, refl, sym, ap, ◌∙◌, subst, arith, append-nil}
-use Rattle.std.specs.Prelude.{◌&&◌, ◌||◌, not, option_and_then, option_map, reverse, nat_le, slice_get, count_by}
+use Rattle.std.proofs.Common.{◌≡◌, ℕ, suc, ◌+◌, ◌-◌, ◌≤◌, ℤ, pos, List, [], ◌∷◌, length, Option, Some, None, Bool, true, false, cond, Result, Ok, Err, refl, sym, ap, ◌∙◌, subst, arith}
+use Rattle.std.specs.Prelude.{◌&&◌, ◌||◌, not, reverse, nat_le, slice_get, count_by}
 use Rattle.std.proofs.lemmas.List.{reverse-reverse}
-use Rattle.std.proofs.lemmas.Option.{slice_get-map}
-use Rattle.hog_value.specs.declared.cell.FunCell.{FunCell}
 use Rattle.hog_value.specs.declared.native.Native.{Native}
 use Rattle.hog_value.specs.declared.value.Kind.{Kind}
-use Rattle.hog_value.specs.declared.value.Kind.TheVariants.{TypeError}
 use Rattle.hog_value.specs.declared.trace.End.TheVariants as end
 use Rattle.hog_value.specs.Values.{Val}
 use Rattle.hog_value.specs.declared.value.Value.TheVariants.{Null, Bool as Truth, Int, Ref}
-use Rattle.hog_value.specs.Cells.{CellOf, Text, Array, Dict, Fun, HeapOf, cell_map, heap_map, text_at}
-use Rattle.hog_value.specs.Operations.{Outcome, outcome_map, made, key_of, truth_of}
-use Rattle.hog_value.proofs.Naturality.{text_at-heap_map, made-heap_map, key_of-heap_map, truth_of-heap_map}
+use Rattle.hog_value.specs.Cells.{Array, HeapOf, heap_map, text_at}
+use Rattle.hog_value.specs.Operations.{outcome_map, made, key_of, truth_of}
+use Rattle.hog_value.proofs.Naturality.{made-heap_map}
 use Rattle.hog_library.specs.Called as native
 use Rattle.hog_library.specs.Called.{called}
 use Rattle.hog_library.proofs.CalledNaturality.{called-heap_map}
@@ -27,32 +24,25 @@ use Rattle.hog_meaning.specs.World as m
 use Rattle.hog_meaning.specs.Meaning.{place_in, literal, most_requests, is_request, is_fetch, is_null, call_native, read_word}
 use Rattle.hog_ops.specs.Plain as o
 use Rattle.hog_ops.specs.Plain.{Op, Ops, NoOp, MoreOp}
-use Rattle.vm_course.specs.State.{Slot, Begins, State, Upvalue, Opened, Closed, function_in, function_at}
-use Rattle.vm_course.specs.Stack.{value_at, or_null, push, top_of, taken, captured_in, captured_by, upvalue_of, upvalue_value}
+use Rattle.vm_course.specs.State.{Begins, State}
+use Rattle.vm_course.specs.Stack.{or_null, top_of, taken}
 use Rattle.vm_course.specs.Throws.{ends, on_result, on_outcome}
 use Rattle.vm_course.specs.Step as vm
 use Rattle.vm_course.specs.Step.{step, act, on_with, on_and_push, property_path, global_of, get_global, spent_by, call_global, binary}
-use Rattle.hog_bridge.proofs.Places.{Seat, Temp, Var, read, shown_seat, seat_at, place_of, up_of, up_of_place, stack_of, ups_of, placed, value_seat, temps, seats_of, temps_over}
+use Rattle.hog_bridge.proofs.Places.{Seat, Temp, Var, seat_at, stack_of, value_seat, temps, seats_of, temps_over}
 use Rattle.hog_bridge.proofs.Ahead.{HasAt}
-use Rattle.hog_bridge.proofs.Heaps.{keeps_grows, fun_at, fun_of, called_fair}
+use Rattle.hog_bridge.proofs.Heaps.{keeps_grows, called_fair}
 use Rattle.hog_bridge.proofs.Turns.{called_turns}
-use Rattle.hog_bridge.proofs.Operated.{operated-heap_map, accessed-heap_map}
-use Rattle.hog_bridge.proofs.Picture.{Given, Ghost, Twin, meant, built, Landing, frame, Comes, FunOk, CapturedIs, Under, under_less, SeesWord, Ctx, landings, at, Framed, Kept, Fits, Run, run_after, extends_same}
-use Rattle.hog_bridge.proofs.Steps.{floor_in, spot, top_pic, taken_pic, framed_push, kept_push, fits_push, fits_temps, framed_temps, op_is}
+use Rattle.hog_bridge.proofs.Picture.{Given, Ghost, meant, built, Comes, FunOk, Under, under_less, SeesWord, Ctx, landings, at, Framed, Kept, Fits, Run, run_after, extends_same}
+use Rattle.hog_bridge.proofs.Steps.{floor_in, spot, top_pic, taken_pic, framed_push, kept_push, fits_temps, framed_temps, op_is}
 use Rattle.hog_bridge.proofs.Parts.{Ready, ExpAt, spends, native_runs}
-use Rattle.hog_bridge.proofs.Exps.{value_step, value_runs, value_result, value_outcome, ready, ending}
-use Rattle.std.specs.List.{list_all, list_any}
+use Rattle.hog_bridge.proofs.Exps.{value_step, value_runs, value_result, value_outcome, ending}
 use Rattle.hog_meaning.specs.Meaning as mean
 use Rattle.hog_value.proofs.Naturality.{made-heap_map}
 use Rattle.hog_bridge.proofs.Operated.{dictionary_made-heap_map, dictionary_fair}
 use Rattle.hog_bridge.proofs.Heaps.{made_fair}
-use Rattle.hog_bridge.proofs.Ahead.{left}
-use Rattle.hog_bridge.proofs.Picture.{comes_then, comes_to}
-use Rattle.hog_bridge.proofs.Steps.{on_pic}
-use Rattle.hog_bridge.proofs.Exps.{rest_step, exp_then}
-use Rattle.hog_bridge.proofs.Lookups.{key_same, truth_same, operated_same, accessed_same, text_there, text_meant, text_runs, local_runs, upvalue_runs}
+use Rattle.hog_bridge.proofs.Lookups.{key_same, truth_same, operated_same, accessed_same, text_there, text_meant, local_runs, upvalue_runs}
 use Rattle.vm_course.specs.Step.{in_pairs, all_true, any_true, jump}
-use Rattle.vm_course.specs.Throws.{goto}
 use Rattle.hog_ops.specs.Table.{span}
 
 -- what is ready for an operation whose operands stand on the stack

@@ -1,41 +1,33 @@
 -- A turn of a loop over values.
-use Rattle.std.proofs.Common.{◌≡◌, ℕ, zero, suc, ◌+◌, ◌-◌, ◌<◌, ◌≤◌, ℤ, pos, neg_ℤ, ◌+ℤ◌, List, [], ◌∷◌, ◌++◌, length, Option, Some, None, Bool, true, false, cond, Ok, refl, sym, ap, ◌∙◌, subst, arith, length-append}
-use Rattle.std.specs.Prelude.{◌==◌, int_le, nat_le, slice_get}
+use Rattle.std.proofs.Common.{◌≡◌, ℕ, ◌+◌, ℤ, List, [], ◌∷◌, ◌++◌, length, Option, Some, None, true, refl, sym, ap, ◌∙◌, subst, arith}
+use Rattle.std.specs.Prelude.{◌==◌, slice_get}
 use Rattle.std.proofs.lemmas.Bool.Decides.{nat_tests}
 use Rattle.hog_value.specs.Values.{Val}
-use Rattle.hog_value.specs.declared.value.Value.TheVariants.{Null, Bool as Truth, Int, Ref}
-use Rattle.hog_value.specs.Meters.{max_units, max_turns}
-use Rattle.hog_value.specs.Operations.{truth_of}
-use Rattle.hog_tree.specs.declared.tree.BinaryOp.TheVariants as b
-use Rattle.hog_tree.specs.Plain.{Word, Stms}
-use Rattle.hog_captures.specs.Frees.{stms_frees}
+use Rattle.hog_value.specs.declared.value.Value.TheVariants.{Int}
+use Rattle.hog_tree.specs.Plain.{Word}
 use Rattle.hog_captures.specs.Frames as names
 use Rattle.hog_captures.specs.Frames.{find_local, find_up, with_local, with_name, with_hidden}
-use Rattle.hog_compiler.specs.Pieces.{one, loop_code, key_count, key_code, item_code, more_code, next_code, key_pop, pop_op, pops}
-use Rattle.hog_compiler.specs.Code.{stms_code, block_pops}
-use Rattle.hog_meaning.specs.Operators.{accessed, operated}
+use Rattle.hog_compiler.specs.Pieces.{key_count, key_code, item_code}
+use Rattle.hog_meaning.specs.Operators.{accessed}
 use Rattle.hog_meaning.specs.World.{Env, World, Got, Gives, Throws, Waits, Spends, and_then, Flow, GoesOn, Returns, declare, named}
 use Rattle.hog_meaning.specs.World as m
-use Rattle.hog_meaning.specs.Meaning.{Effect, Copies, LoopOver, leave, on_flow, bind_key, bind_item, run_over, effects}
+use Rattle.hog_meaning.specs.Meaning.{leave, on_flow, bind_key, bind_item}
 use Rattle.hog_ops.specs.Plain as o
 use Rattle.hog_ops.specs.Plain.{Op, Ops, NoOp, MoreOp, ◌⊕◌}
 use Rattle.hog_ops.specs.Table.{size, span}
-use Rattle.vm_course.specs.State.{Slot, Begins, Frame, State}
-use Rattle.vm_course.specs.Stack.{with_value, top_of}
-use Rattle.vm_course.specs.Step.{step, act, on_with}
-use Rattle.hog_bridge.proofs.Words.{In, Sub, with_word}
-use Rattle.hog_bridge.proofs.Resolved.{StmsOk}
-use Rattle.hog_bridge.proofs.Places.{Seat, Temp, Var, seat_at, stack_of, Distinct, length-stack, seat_top, seat_push, lower}
-use Rattle.hog_bridge.proofs.Ahead.{HasAt, has_front, has_back, has_join, span-after}
-use Rattle.hog_bridge.proofs.Picture.{Given, Ghost, Landing, frame, Comes, comes_then, comes_to, at_once, one_step, stays, Under, under_less, Ctx, landings, at, Framed, Kept, Fits, Extends, extends_same, extends_then, Run, run_after, run_then, gives}
-use Rattle.hog_bridge.proofs.Steps.{spot, on_pic, top_pic, framed_push, kept_on, fits_push, op_is}
+use Rattle.vm_course.specs.State.{Begins, State}
+use Rattle.vm_course.specs.Stack.{with_value}
+use Rattle.vm_course.specs.Step.{act, on_with}
+use Rattle.hog_bridge.proofs.Words.{with_word}
+use Rattle.hog_bridge.proofs.Places.{Seat, Temp, seat_at, stack_of, length-stack, seat_top, seat_push, lower}
+use Rattle.hog_bridge.proofs.Ahead.{HasAt}
+use Rattle.hog_bridge.proofs.Picture.{Given, Ghost, Landing, Comes, comes_then, at_once, one_step, stays, Under, under_less, Ctx, landings, at, Fits, Extends, extends_same, extends_then, Run, run_after, run_then, gives}
+use Rattle.hog_bridge.proofs.Steps.{spot, on_pic, top_pic, kept_on, fits_push, op_is}
 use Rattle.hog_bridge.proofs.Parts.{ExpAt, passes}
 use Rattle.hog_bridge.proofs.Exps.{exp_then, fits_on}
-use Rattle.hog_bridge.proofs.Operators.{ready_with, get_step, integer_step, plus_step, at_most_step, get_item_runs}
-use Rattle.hog_bridge.proofs.Follow.{scoped, GoneOn, StmAt, Follows, run_more, run_on, stm_more, framed_scope, block, hidden_frame, turn_frame, turn_code, over_loop, over_code, over_words, key_seats, hidden_seats, InRange}
-use Rattle.hog_bridge.proofs.Blocks.{StmEnd, StmsEnd, PlainEnd, count_name, lets, after_frame, after_words, ArePops, pop_is, pops_after, hidden_pops, block_are_pops, pops_run, framed_over, plain, stm_then, let_runs, more_goes, test_step}
-use Rattle.hog_bridge.proofs.Loops.{back_runs, fits_turn, loop_test, loop_jump, loop_body, loop_back, loop_end, loop_again}
-use Rattle.hog_bridge.proofs.Copied.{at_most_is, next_is}
+use Rattle.hog_bridge.proofs.Operators.{get_step, get_item_runs}
+use Rattle.hog_bridge.proofs.Follow.{scoped, StmAt, run_on, framed_scope, hidden_frame, turn_frame, key_seats}
+use Rattle.hog_bridge.proofs.Blocks.{StmEnd, count_name, ArePops, pops_run, plain, stm_then, let_runs, more_goes}
 
 -- a hidden local has no name
 pub fits_hide : {g : Given} {n d : ℕ} {c : Ctx} {ρ : Env} {L : List Seat} {G : Ghost} {w : World} (v : Val) → Fits g n d c ρ L G w → Fits g n d (scoped c (with_local None c.scope) c.words c.sight) ρ (Temp v ∷ L) G w

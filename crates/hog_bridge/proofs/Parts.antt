@@ -1,9 +1,7 @@
 -- Kinds, results, outcomes and natives on the picture.
-use Rattle.std.proofs.Common.{◌≡◌, ℕ, suc, ◌+◌, ◌-◌, ◌<◌, ◌≤◌, List, [], ◌∷◌, ◌++◌, length, Option, Some, None, Bool, true, false, cond, Result, Ok, Err, refl, sym, ap, ◌∙◌, subst, arith, append-nil}
-use Rattle.std.specs.Prelude.{◌*◌, ◌&&◌, reverse, nat_le, slice_get, count_by}
-use Rattle.std.proofs.lemmas.List.{reverse-reverse}
+use Rattle.std.proofs.Common.{◌≡◌, ℕ, suc, ◌+◌, ◌-◌, ◌<◌, ◌≤◌, List, [], ◌∷◌, ◌++◌, length, Some, Result, Ok, Err, refl, sym, ap, ◌∙◌, subst, arith, append-nil}
+use Rattle.std.specs.Prelude.{◌*◌, slice_get}
 use Rattle.hog_value.specs.declared.value.Kind.{Kind}
-use Rattle.hog_value.specs.declared.native.Native.{Native}
 use Rattle.hog_value.specs.declared.trace.TraceItem.TheVariants.{Printed, Asked}
 use Rattle.hog_value.specs.declared.trace.End.TheVariants as end
 use Rattle.hog_value.specs.declared.trace.Request.{Request}
@@ -17,25 +15,23 @@ use Rattle.hog_library.specs.Called as native
 use Rattle.hog_library.specs.Called.{called}
 use Rattle.hog_library.specs.Cells.{thrown, response}
 use Rattle.hog_library.proofs.Naturality.{thrown-heap_map, response-heap_map}
-use Rattle.hog_library.proofs.CalledNaturality.{called-heap_map}
-use Rattle.hog_library.proofs.CalledGrowing.{called-grows}
 use Rattle.hog_meaning.specs.World.{Env, World, Reply, Got, Gives, and_then}
 use Rattle.hog_meaning.specs.World as m
 use Rattle.hog_meaning.specs.Meaning as e
 use Rattle.hog_meaning.specs.Meaning.{most_requests, is_request, is_fetch, call_native}
 use Rattle.hog_meaning.specs.Program.{end_of}
-use Rattle.hog_ops.specs.Plain.{Op, CallGlobal}
-use Rattle.vm_course.specs.State.{Slot, Begins, Running, Waiting, State}
-use Rattle.vm_course.specs.Stack.{cut_to, push, taken}
-use Rattle.vm_course.specs.Throws.{ends, goto, throw_kind, throw_made, on_result, on_outcome}
+use Rattle.hog_ops.specs.Plain.{Op}
+use Rattle.vm_course.specs.State.{Begins, Running, Waiting, State}
+use Rattle.vm_course.specs.Stack.{push}
+use Rattle.vm_course.specs.Throws.{ends, throw_kind, throw_made, on_result, on_outcome}
 use Rattle.vm_course.specs.Step as vm
 use Rattle.vm_course.specs.Step.{step, act, on_with, on_and_push, of_native, take_reply}
-use Rattle.hog_bridge.proofs.Places.{Seat, Temp, Var, stack_of, Distinct, temps, distinct_temps, lower}
+use Rattle.hog_bridge.proofs.Places.{Seat, Temp, stack_of, lower}
 use Rattle.hog_bridge.proofs.Ahead.{left, left_past}
-use Rattle.hog_bridge.proofs.Heaps.{AllFuns, Keeps, keeps_same, keeps_grows, Fair, FunsKept, thrown_fair, response_fair, called_fair}
-use Rattle.hog_bridge.proofs.Turns.{TurnsGo, called_turns, Calm, response_calm}
-use Rattle.hog_bridge.proofs.Picture.{Given, nothing, Ghost, Twin, meant, built, Landing, frame, pic, phi, psi, Comes, one_step, two_steps, ahead, stops, FunOk, TextsLie, Under, Ctx, landings, at, Framed, Kept, Fits, Halts, Idles, Extends, extends_same, Run, run_then, gives, gives_with}
-use Rattle.hog_bridge.proofs.Steps.{floor_in, spot, pop_pic, on_pic, taken_pic, raised, op_is}
+use Rattle.hog_bridge.proofs.Heaps.{AllFuns, Keeps, Fair, FunsKept, thrown_fair, response_fair}
+use Rattle.hog_bridge.proofs.Turns.{TurnsGo, Calm, response_calm}
+use Rattle.hog_bridge.proofs.Picture.{Given, nothing, Ghost, Twin, meant, built, frame, phi, psi, one_step, two_steps, ahead, stops, FunOk, Under, Ctx, landings, at, Framed, Kept, Run, gives, gives_with}
+use Rattle.hog_bridge.proofs.Steps.{spot, on_pic, raised}
 
 -- an operation stands at this place, and what must hold there does
 pub record Ready (g : Given) (n d : ℕ) (c : Ctx) (place : ℕ) (L : List Seat) (G : Ghost) (w : World) : Type 0 where

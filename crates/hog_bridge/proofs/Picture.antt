@@ -1,5 +1,5 @@
 -- The machine's state as a picture of the meaning's world.
-use Rattle.std.proofs.Common.{◌≡◌, ℕ, zero, suc, ◌+◌, ◌-◌, ◌<◌, ◌≤◌, List, [], ◌∷◌, ◌++◌, length, Option, Some, None, refl, sym, ap, ◌∙◌, subst, ◌⊎◌, inl, inr, ⊎_elim, arith, append_assoc, append-nil}
+use Rattle.std.proofs.Common.{◌≡◌, ℕ, zero, suc, ◌+◌, ◌-◌, ◌<◌, ◌≤◌, List, [], ◌∷◌, ◌++◌, length, Option, Some, None, refl, sym, ap, ◌∙◌, subst, ◌⊎◌, ⊎_elim, arith, append_assoc, append-nil}
 use Rattle.std.specs.Prelude.{◌*◌, slice_get}
 use Rattle.std.proofs.lemmas.Bool.{cases_lt}
 use Rattle.hog_value.specs.declared.cell.FunCell.{FunCell}
@@ -22,7 +22,7 @@ use Rattle.vm_course.specs.Step.{step}
 use Rattle.vm_course.specs.Course.{steps}
 use Rattle.hog_bridge.proofs.Words.{In, onto}
 use Rattle.hog_bridge.proofs.Resolved.{BodyOk, sight_of}
-use Rattle.hog_bridge.proofs.Places.{Seat, Temp, Var, seat_at, place_of, stack_of, ups_of, owner_of, Distinct}
+use Rattle.hog_bridge.proofs.Places.{Seat, Temp, Var, seat_at, stack_of, ups_of, owner_of, Distinct}
 use Rattle.hog_bridge.proofs.Ahead.{HasAt, left, left_past, left_some}
 use Rattle.hog_bridge.proofs.Heaps.{AllFuns, Keeps, keeps_same, keeps_then, fun_at}
 

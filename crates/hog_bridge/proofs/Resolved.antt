@@ -1,5 +1,5 @@
 -- Which calls of a tree are sound where these names are in sight: a word that is called and isn't in sight is a native, which takes so many.
-use Rattle.std.proofs.Common.{◌≡◌, ℕ, List, [], ◌∷◌, Option, Some, None, Bool, true, false, cond, refl, sym, ap, ◌∙◌}
+use Rattle.std.proofs.Common.{◌≡◌, ℕ, List, [], ◌∷◌, Option, Some, None, Bool, true, false, cond, refl}
 use Rattle.std.specs.Prelude.{bytes_eq, ◌||◌}
 use Rattle.hog_value.specs.declared.native.Native.{Native}
 use Rattle.hog_value.specs.Natives.{native_named, takes_of}

@@ -1,12 +1,11 @@
 -- Whole runs: the course comes to its end or its wait, shows the meaning, and is bounded.
-use Rattle.std.proofs.Common.{◌≡◌, ℕ, zero, suc, ◌+◌, ◌-◌, ◌<◌, ◌≤◌, List, [], ◌∷◌, ◌++◌, length, Option, Some, None, true, false, refl, sym, ap, ◌∙◌, subst, ◌⊎◌, inl, inr, ⊎_elim, arith, append-nil}
-use Rattle.std.specs.Prelude.{◌*◌, slice_get}
+use Rattle.std.proofs.Common.{◌≡◌, ℕ, zero, suc, ◌+◌, ◌-◌, ◌≤◌, List, [], ◌++◌, length, Option, Some, None, true, refl, sym, ap, ◌∙◌, subst, ⊎_elim, arith, append-nil}
+use Rattle.std.specs.Prelude.{◌*◌}
 use Rattle.std.proofs.lemmas.Bool.{cases_lt}
 use Rattle.std.proofs.lemmas.List.{length-map}
 use Rattle.hog_value.specs.declared.cell.FunCell.{FunCell}
 use Rattle.hog_value.specs.declared.trace.TraceItem.{TraceItem}
 use Rattle.hog_value.specs.declared.trace.End.{End}
-use Rattle.hog_value.specs.declared.trace.End.TheVariants as end
 use Rattle.hog_value.specs.Values.{Val}
 use Rattle.hog_value.specs.Meters.{max_turns}
 use Rattle.hog_value.specs.Cells.{HeapOf, heap_map, text_at}
@@ -16,7 +15,7 @@ use Rattle.hog_tree.specs.Plain.{Word, Stms, ManyStms}
 use Rattle.hog_captures.specs.Frees.{stms_frees}
 use Rattle.hog_captures.specs.Frames.{first_frame}
 use Rattle.hog_compiler.specs.Code.{body_code, code_of}
-use Rattle.hog_meaning.specs.World.{Reply, World, Fixed, Got, Gives, Throws, Waits, Spends, Flow, GoesOn, Returns}
+use Rattle.hog_meaning.specs.World.{Reply, World, Got, Gives, Throws, Waits, Spends, Flow, GoesOn, Returns}
 use Rattle.hog_meaning.specs.Meaning.{Call, place_in, effect_at}
 use Rattle.hog_meaning.specs.Program.{Shows, shows, texts_in, first_cells, run_from, outcome, meaning}
 use Rattle.vm_course.specs.State.{Slot, code_slots, Running, Waiting, Ended, Mode, State}
@@ -25,10 +24,9 @@ use Rattle.vm_course.specs.Course.{literals_of_code, started, fixed_by, steps, m
 use Rattle.hog_bridge.specs.Laws.{operations, HoldsTheSame, WaitsAlike, IsOnMeaning}
 use Rattle.hog_bridge.proofs.Words.{In, sub_same}
 use Rattle.hog_bridge.proofs.Resolved.{StmsOk}
-use Rattle.hog_bridge.proofs.Places.{Seat}
 use Rattle.hog_bridge.proofs.Ahead.{HasAt, left, left_later}
 use Rattle.hog_bridge.proofs.Heaps.{AllFuns, FunsFair}
-use Rattle.hog_bridge.proofs.Picture.{Given, Twin, meant, built, Ghost, phi, psi, psi_in, Comes, at_once, steps-add, FunOk, Ctx, at, Kept, Fits, Ends}
+use Rattle.hog_bridge.proofs.Picture.{Given, Twin, meant, built, Ghost, phi, psi, psi_in, Comes, at_once, steps-add, FunOk, Ctx, at, Fits, Ends}
 use Rattle.hog_bridge.proofs.Follow.{BodyAt}
 use Rattle.hog_bridge.proofs.Tasks.{follows_at}
 use Rattle.hog_bridge.proofs.Grows.{steps_grow}

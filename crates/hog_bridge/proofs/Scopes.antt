@@ -3,11 +3,10 @@ use Rattle.std.proofs.Common.{◌≡◌, ℕ, List, [], ◌∷◌, ◌++◌, Opt
 use Rattle.hog_tree.specs.Plain.{Word, Exp, Exps, Parts, Pairs, Body, Stm, Stms, OptionExp, OptionStm, OptionStms, Int, Truth, Null, Text, Template, Name, Array, Dict, Neg, Not, Binary, Coalesce, Prop, PropNullish, Index, Call, Lambda, NoExp, MoreExp, NoPart, MoreText, MoreHole, NoPair, MorePair, OneExp, ManyStms, Let, Assign, Do, Return, Throw, If, While, For, ForIn, Fun, Try, Block, Done, Then, NoneExp, SomeExp, NoneStm, SomeStm, NoneStms, SomeStms}
 use Rattle.hog_captures.specs.Frees.{is_among, name_by, option_name_by}
 use Rattle.hog_scope.specs.declared.item.Item.{Item}
-use Rattle.hog_scope.specs.Words.{Event, Declares, Binds, declares, binds, count_of, callee, target, exp_words, exps_words, parts_words, pairs_words, body_words, stm_words, stms_words, option_exp_words, option_stm_words, option_stms_words}
+use Rattle.hog_scope.specs.Words.{Event, Declares, Binds, declares, binds, count_of, callee, target, exp_words, exps_words, parts_words, pairs_words, body_words, stm_words, stms_words, option_exp_words, option_stm_words, option_step_words, option_stms_words}
 use Rattle.hog_scope.specs.Literals.{texts_of}
 use Rattle.hog_scope.specs.Scopes.{Known, Fault, start, run, items_at, items_of}
 use Rattle.hog_scope.proofs.Closed.{KeepsScopes, exp_closed, option_exp_closed}
-use Rattle.hog_bridge.specs.Steady.{ExpSteady, ExpsSteady, PartsSteady, PairsSteady, BodySteady, StmSteady, StmsSteady, OptionExpSteady, OptionStmSteady, OptionStmsSteady}
 use Rattle.hog_bridge.proofs.Words.{with_word, onto}
 use Rattle.hog_bridge.proofs.Resolved.{CalleeOk, ExpOk, ExpsOk, PartsOk, PairsOk, BodyOk, StmOk, StmsOk, OptionExpOk, OptionStmOk, OptionStmsOk}
 use Rattle.hog_bridge.proofs.Sights.{Part, then_part, so, nothing, read_texts, reads, assigns, calls, spells, let_part, let_both, scope_part, declared_part, all_declared_part}
@@ -99,9 +98,6 @@ body_sight V (ManyStms ss) = stms_sight V ss
 events_so : {V W : List Word} {es fs : List Event} {P : Type 0} {ts : List Word} → es ≡ fs → Part V W es P ts → Part V W fs P ts
 events_so {V} {W} {es} {fs} {P} {ts} e p = subst (λ z. Part V W z P ts) e p
 
-sight_so : {V W X : List Word} {es : List Event} {P : Type 0} {ts : List Word} → W ≡ X → Part V W es P ts → Part V X es P ts
-sight_so {V} {W} {X} {es} {P} {ts} e p = subst (λ z. Part V z es P ts) e p
-
 callee_part : {V : List Word} (f : Exp) (n : ℕ) → Part V V (exp_words f) (ExpOk V f) (exp_texts V f) → Part V V (callee f n (exp_words f)) (CalleeOk V f n × ExpOk V f) (but_name f (exp_texts V f))
 callee_part (Int _) n p = so (λ h. (tt, h)) p
 callee_part (Truth _) n p = so (λ h. (tt, h)) p
@@ -149,86 +145,91 @@ names_part (Some u) v {es} {fs} kept p q =
     events_so (ap (λ z. Declares u ∷ Declares v ∷ z) (append_assoc (es ++ Binds u ∷ []) (Binds v ∷ []) fs)) (then_part (let_both u v kept p) q)
 
 mutual
-  pub exp_part : (V : List Word) (x : Exp) → ExpSteady x → Part V V (exp_words x) (ExpOk V x) (exp_texts V x)
-  exp_part V (Int n) s = nothing
-  exp_part V (Truth b) s = nothing
-  exp_part V Null s = nothing
-  exp_part V (Text t) s = spells t
-  exp_part V (Template ps) s = parts_part V ps s
-  exp_part V (Name w) s = reads w
-  exp_part V (Array xs) s = exps_part V xs s
-  exp_part V (Dict ds) s = pairs_part V ds s
-  exp_part V (Neg x) s = exp_part V x s
-  exp_part V (Not x) s = exp_part V x s
-  exp_part V (Binary op x y) s = then_part (exp_part V x s.0) (exp_part V y s.1)
-  exp_part V (Coalesce x y) s = then_part (exp_part V x s.0) (exp_part V y s.1)
-  exp_part V (Prop x w) s = so (λ h. h.0) (then_part (exp_part V x s) (spells w))
-  exp_part V (PropNullish x w) s = so (λ h. h.0) (then_part (exp_part V x s) (spells w))
-  exp_part V (Index x k) s = then_part (exp_part V x s.0) (exp_part V k s.1)
-  exp_part V (Call f xs) s = so (λ h. (h.0.0, h.0.1, h.1)) (then_part (callee_part f (count_of xs) (exp_part V f s.0)) (exps_part V xs s.1))
-  exp_part V (Lambda ps b) s = so (λ h. h.1) (scope_part (then_part (all_declared_part ps) (body_part (onto ps V) b s)))
+  pub exp_part : (V : List Word) (x : Exp) → Part V V (exp_words x) (ExpOk V x) (exp_texts V x)
+  exp_part V (Int n) = nothing
+  exp_part V (Truth b) = nothing
+  exp_part V Null = nothing
+  exp_part V (Text t) = spells t
+  exp_part V (Template ps) = parts_part V ps
+  exp_part V (Name w) = reads w
+  exp_part V (Array xs) = exps_part V xs
+  exp_part V (Dict ds) = pairs_part V ds
+  exp_part V (Neg x) = exp_part V x
+  exp_part V (Not x) = exp_part V x
+  exp_part V (Binary op x y) = then_part (exp_part V x) (exp_part V y)
+  exp_part V (Coalesce x y) = then_part (exp_part V x) (exp_part V y)
+  exp_part V (Prop x w) = so (λ h. h.0) (then_part (exp_part V x) (spells w))
+  exp_part V (PropNullish x w) = so (λ h. h.0) (then_part (exp_part V x) (spells w))
+  exp_part V (Index x k) = then_part (exp_part V x) (exp_part V k)
+  exp_part V (Call f xs) = so (λ h. (h.0.0, h.0.1, h.1)) (then_part (callee_part f (count_of xs) (exp_part V f)) (exps_part V xs))
+  exp_part V (Lambda ps b) = so (λ h. h.1) (scope_part (then_part (all_declared_part ps) (body_part (onto ps V) b)))
 
-  pub exps_part : (V : List Word) (xs : Exps) → ExpsSteady xs → Part V V (exps_words xs) (ExpsOk V xs) (exps_texts V xs)
-  exps_part V NoExp s = nothing
-  exps_part V (MoreExp x xs) s = then_part (exp_part V x s.0) (exps_part V xs s.1)
+  pub exps_part : (V : List Word) (xs : Exps) → Part V V (exps_words xs) (ExpsOk V xs) (exps_texts V xs)
+  exps_part V NoExp = nothing
+  exps_part V (MoreExp x xs) = then_part (exp_part V x) (exps_part V xs)
 
-  pub parts_part : (V : List Word) (ps : Parts) → PartsSteady ps → Part V V (parts_words ps) (PartsOk V ps) (parts_texts V ps)
-  parts_part V NoPart s = nothing
-  parts_part V (MoreText t ps) s = so (λ h. h.1) (then_part (spells t) (parts_part V ps s))
-  parts_part V (MoreHole x ps) s = then_part (exp_part V x s.0) (parts_part V ps s.1)
+  pub parts_part : (V : List Word) (ps : Parts) → Part V V (parts_words ps) (PartsOk V ps) (parts_texts V ps)
+  parts_part V NoPart = nothing
+  parts_part V (MoreText t ps) = so (λ h. h.1) (then_part (spells t) (parts_part V ps))
+  parts_part V (MoreHole x ps) = then_part (exp_part V x) (parts_part V ps)
 
-  pub pairs_part : (V : List Word) (ds : Pairs) → PairsSteady ds → Part V V (pairs_words ds) (PairsOk V ds) (pairs_texts V ds)
-  pairs_part V NoPair s = nothing
-  pairs_part V (MorePair k x ds) s = so (λ h. (h.0.0, h.0.1, h.1)) (then_part (then_part (exp_part V k s.0) (exp_part V x s.1)) (pairs_part V ds s.2))
+  pub pairs_part : (V : List Word) (ds : Pairs) → Part V V (pairs_words ds) (PairsOk V ds) (pairs_texts V ds)
+  pairs_part V NoPair = nothing
+  pairs_part V (MorePair k x ds) = so (λ h. (h.0.0, h.0.1, h.1)) (then_part (then_part (exp_part V k) (exp_part V x)) (pairs_part V ds))
 
-  pub body_part : (V : List Word) (b : Body) → BodySteady b → Part V (body_sight V b) (body_words b) (BodyOk V b) (body_texts V b)
-  body_part V (OneExp x) s = exp_part V x s
-  body_part V (ManyStms ss) s = stms_part V ss s
+  pub body_part : (V : List Word) (b : Body) → Part V (body_sight V b) (body_words b) (BodyOk V b) (body_texts V b)
+  body_part V (OneExp x) = exp_part V x
+  body_part V (ManyStms ss) = stms_part V ss
 
-  pub stm_part : (V : List Word) (s : Stm) → StmSteady s → Part V (with_word (name_by s) V) (stm_words s) (StmOk V s) (stm_texts V s)
-  stm_part V (Let w x) s = let_part w (option_exp_closed x) (option_exp_part V x s)
-  stm_part V (Assign x y) s = then_part (target_part x (exp_part V x s.0)) (exp_part V y s.1)
-  stm_part V (Do x) s = exp_part V x s
-  stm_part V (Return x) s = option_exp_part V x s
-  stm_part V (Throw x) s = exp_part V x s
-  stm_part V (If c b o) s = so (λ h. (h.0.0, h.0.1, h.1)) (then_part (then_part (exp_part V c s.0) (scope_part (stms_part V b s.1))) (option_stms_part V o s.2))
-  stm_part V (While c b) s = then_part (exp_part V c s.0) (scope_part (stms_part V b s.1))
-  stm_part V (For a c n b) s =
+  pub stm_part : (V : List Word) (s : Stm) → Part V (with_word (name_by s) V) (stm_words s) (StmOk V s) (stm_texts V s)
+  stm_part V (Let w x) = let_part w (option_exp_closed x) (option_exp_part V x)
+  stm_part V (Assign x y) = then_part (target_part x (exp_part V x)) (exp_part V y)
+  stm_part V (Do x) = exp_part V x
+  stm_part V (Return x) = option_exp_part V x
+  stm_part V (Throw x) = exp_part V x
+  stm_part V (If c b o) = so (λ h. (h.0.0, h.0.1, h.1)) (then_part (then_part (exp_part V c) (scope_part (stms_part V b))) (option_stms_part V o))
+  stm_part V (While c b) = then_part (exp_part V c) (scope_part (stms_part V b))
+  stm_part V (For a c n b) =
       let V2 = with_word (option_name_by a) V in
-      let step : Part V2 V2 (option_stm_words n) (OptionStmOk V2 n) (option_stm_texts V2 n) = sight_so (ap (λ o. with_word o V2) s.0) (option_stm_part V2 n s.3) in
-      so (λ h. (h.0.0.0, h.0.0.1, h.0.1, h.1)) (scope_part (then_part (then_part (then_part (option_stm_part V a s.1) (option_exp_part V2 c s.2)) step) (scope_part (stms_part V2 b s.4))))
-  stm_part V (ForIn k v x b) s = scope_part (names_part k v (exp_closed x) (exp_part V x s.0) (scope_part (stms_part (v ∷ with_word k V) b s.1)))
-  stm_part V (Fun w ps b) s = so (λ h. h.1.1) (then_part (declared_part w) (scope_part (then_part (all_declared_part ps) (stms_part (onto ps (w ∷ V)) b s))))
-  stm_part V (Try b w c) s = so (λ h. (h.0, h.1.1)) (then_part (scope_part (stms_part V b s.0)) (scope_part (then_part (declared_part w) (scope_part (stms_part (w ∷ V) c s.1)))))
-  stm_part V (Block b) s = scope_part (stms_part V b s)
+      so (λ h. (h.0.0.0, h.0.0.1, h.0.1, h.1))
+      (scope_part (then_part (then_part (then_part (option_stm_part V a) (option_exp_part V2 c)) (option_step_part V2 n)) (scope_part (stms_part V2 b))))
+  stm_part V (ForIn k v x b) = scope_part (names_part k v (exp_closed x) (exp_part V x) (scope_part (stms_part (v ∷ with_word k V) b)))
+  stm_part V (Fun w ps b) = so (λ h. h.1.1) (then_part (declared_part w) (scope_part (then_part (all_declared_part ps) (stms_part (onto ps (w ∷ V)) b))))
+  stm_part V (Try b w c) = so (λ h. (h.0, h.1.1)) (then_part (scope_part (stms_part V b)) (scope_part (then_part (declared_part w) (scope_part (stms_part (w ∷ V) c)))))
+  stm_part V (Block b) = scope_part (stms_part V b)
 
-  pub stms_part : (V : List Word) (ss : Stms) → StmsSteady ss → Part V (stms_sight V ss) (stms_words ss) (StmsOk V ss) (stms_texts V ss)
-  stms_part V Done s = nothing
-  stms_part V (Then x ss) s = then_part (stm_part V x s.0) (stms_part (with_word (name_by x) V) ss s.1)
+  pub stms_part : (V : List Word) (ss : Stms) → Part V (stms_sight V ss) (stms_words ss) (StmsOk V ss) (stms_texts V ss)
+  stms_part V Done = nothing
+  stms_part V (Then x ss) = then_part (stm_part V x) (stms_part (with_word (name_by x) V) ss)
 
-  pub option_exp_part : (V : List Word) (x : OptionExp) → OptionExpSteady x → Part V V (option_exp_words x) (OptionExpOk V x) (option_exp_texts V x)
-  option_exp_part V NoneExp s = nothing
-  option_exp_part V (SomeExp x) s = exp_part V x s
+  pub option_exp_part : (V : List Word) (x : OptionExp) → Part V V (option_exp_words x) (OptionExpOk V x) (option_exp_texts V x)
+  option_exp_part V NoneExp = nothing
+  option_exp_part V (SomeExp x) = exp_part V x
 
-  pub option_stm_part : (V : List Word) (a : OptionStm) → OptionStmSteady a → Part V (with_word (option_name_by a) V) (option_stm_words a) (OptionStmOk V a) (option_stm_texts V a)
-  option_stm_part V NoneStm s = nothing
-  option_stm_part V (SomeStm x) s = stm_part V x s
+  pub option_stm_part : (V : List Word) (a : OptionStm) → Part V (with_word (option_name_by a) V) (option_stm_words a) (OptionStmOk V a) (option_stm_texts V a)
+  option_stm_part V NoneStm = nothing
+  option_stm_part V (SomeStm x) = stm_part V x
 
-  pub option_stms_part : (V : List Word) (o : OptionStms) → OptionStmsSteady o → Part V V (option_stms_words o) (OptionStmsOk V o) (option_stms_texts V o)
-  option_stms_part V NoneStms s = nothing
-  option_stms_part V (SomeStms b) s = scope_part (stms_part V b s)
+  -- a step is a scope of its own
+  pub option_step_part : (V : List Word) (a : OptionStm) → Part V V (option_step_words a) (OptionStmOk V a) (option_stm_texts V a)
+  option_step_part V NoneStm = nothing
+  option_step_part V (SomeStm x) = scope_part (stm_part V x)
+
+  pub option_stms_part : (V : List Word) (o : OptionStms) → Part V V (option_stms_words o) (OptionStmsOk V o) (option_stms_texts V o)
+  option_stms_part V NoneStms = nothing
+  option_stms_part V (SomeStms b) = scope_part (stms_part V b)
 
 -- the calls of a program whose names are without fault are sound, and its literal texts are those of its tree
 pub record Scoped (program : Stms) (items : List Item) : Type 0 where
   pub ok : StmsOk [] program
   pub texts : texts_of (stms_words program) items ≡ stms_texts [] program
 
-pub scoped : (program : Stms) (items : List Item) → StmsSteady program → items_of program ≡ Ok items → Scoped program items
-scoped program items s is = by (run (stms_words program) start) refl is
+pub scoped : (program : Stms) (items : List Item) → items_of program ≡ Ok items → Scoped program items
+scoped program items is = by (run (stms_words program) start) refl is
   where
     by : (o : Result Known Fault) → run (stms_words program) start ≡ o → items_at o ≡ Ok items → Scoped program items
     by (Ok k) ran e =
-        let w = (stms_part [] program s).goes start k (record { tells = λ w. refl }) ran in
+        let w = (stms_part [] program).goes start k (record { tells = λ w. refl }) ran in
         let same : k.items ≡ items = cc in
         record {
           ok = w.holds;

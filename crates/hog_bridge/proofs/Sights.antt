@@ -1,5 +1,5 @@
 -- What events come to where the words in sight are known: which they leave in sight, and which texts of theirs are literal.
-use Rattle.std.proofs.Common.{◌≡◌, ℕ, List, [], ◌∷◌, ◌++◌, length, drop, Option, Some, None, Bool, true, false, cond, Result, Ok, Err, is_some, refl, sym, ap, ◌∙◌, subst, ◌⊎◌, inl, inr, ⊎_elim, append_assoc, append-nil}
+use Rattle.std.proofs.Common.{◌≡◌, ℕ, List, [], ◌∷◌, ◌++◌, length, drop, Option, Some, None, Bool, true, false, cond, Result, Ok, Err, is_some, refl, sym, ap, ◌∙◌, subst, inl, inr, ⊎_elim, append_assoc, append-nil}
 use Rattle.std.specs.Prelude.{bytes_eq, ◌||◌}
 use Rattle.hog_value.specs.declared.native.Native.{Native}
 use Rattle.hog_value.specs.Natives.{native_named, takes_of}

@@ -1,35 +1,31 @@
 -- Statements: the machine follows the meaning.
-use Rattle.std.proofs.Common.{◌≡◌, ℕ, zero, suc, ◌+◌, ◌-◌, ◌<◌, ◌≤◌, ℤ, pos, neg_ℤ, List, [], ◌∷◌, ◌++◌, length, Option, Some, None, Bool, true, false, cond, refl, sym, ap, ◌∙◌, subst, inl, inr, arith}
+use Rattle.std.proofs.Common.{◌≡◌, ℕ, ◌+◌, ◌≤◌, pos, neg_ℤ, List, [], ◌∷◌, ◌++◌, length, Some, true, false, cond, refl, sym, ap, subst, inl, arith}
 use Rattle.std.specs.Prelude.{slice_get}
-use Rattle.hog_value.specs.Values.{Val}
-use Rattle.hog_value.specs.Meters.{max_units}
 use Rattle.hog_value.specs.Operations.{truth_of}
 use Rattle.hog_tree.specs.Plain as t
 use Rattle.hog_tree.specs.Plain.{Word, Exp, Stm, Stms, OptionExp, OptionStm, OptionStms, Let, Assign, Do, Return, Throw, If, While, For, ForIn, Fun, Try, Block, Done, Then, NoneExp, SomeExp, NoneStm, SomeStm, NoneStms, SomeStms}
-use Rattle.hog_captures.specs.Frees.{exp_frees, stm_frees, stms_frees, option_exp_frees, option_stm_frees, option_stms_frees, without, without_all, without_name, name_by, option_name_by}
-use Rattle.hog_captures.specs.Frames as names
+use Rattle.hog_captures.specs.Frees.{exp_frees, stm_frees, stms_frees, option_exp_frees, option_stm_frees, without, without_name, name_by, option_name_by}
 use Rattle.hog_captures.specs.Frames.{find_local, find_up, with_local, with_name}
-use Rattle.hog_compiler.specs.Pieces.{one, loop_code, write_op, pop_op, key_count, hidden_code, more_code, pops}
-use Rattle.hog_compiler.specs.Code.{exp_code, stm_code, stms_code, block_pops, value_code, option_stm_code, option_name_pop, name_pop}
-use Rattle.hog_meaning.specs.World.{Env, World, Got, Gives, Throws, and_then, Flow, GoesOn, Returns, find_var, declare, named}
-use Rattle.hog_meaning.specs.World as m
-use Rattle.hog_meaning.specs.Meaning.{Effect, Loop, LoopWithStep, Copies, leave, on_flow, catch, run_for, run_over, copied, value, effect, effects, optional, otherwise, begin, condition}
+use Rattle.hog_compiler.specs.Pieces.{one, write_op, pop_op, key_count, hidden_code, more_code, pops}
+use Rattle.hog_compiler.specs.Code.{exp_code, stm_code, stms_code, block_pops, value_code, option_stm_code, option_name_pop}
+use Rattle.hog_meaning.specs.World.{Env, World, and_then, find_var, declare, named}
+use Rattle.hog_meaning.specs.Meaning.{Effect, leave, run_for, run_over, value, effect, effects, optional, otherwise, begin, condition}
 use Rattle.hog_ops.specs.Plain as o
 use Rattle.hog_ops.specs.Plain.{Op, Ops, NoOp, MoreOp, ◌⊕◌}
 use Rattle.hog_ops.specs.Table.{size, span}
-use Rattle.vm_course.specs.State.{Slot, Begins, Frame, State}
-use Rattle.hog_bridge.proofs.Words.{In, Sub, sub_left, sub_right, sub_past, sub_name, with_word}
-use Rattle.hog_bridge.proofs.Resolved.{ExpOk, StmOk, StmsOk, OptionExpOk, OptionStmOk, OptionStmsOk}
+use Rattle.vm_course.specs.State.{Begins}
+use Rattle.hog_bridge.proofs.Words.{Sub, sub_left, sub_right, sub_past, sub_name, with_word}
+use Rattle.hog_bridge.proofs.Resolved.{StmOk, StmsOk, OptionExpOk, OptionStmOk}
 use Rattle.hog_bridge.proofs.Places.{Seat, Temp, Var}
 use Rattle.hog_bridge.proofs.Ahead.{HasAt, has_front, has_back, has_join, span-after}
-use Rattle.hog_bridge.proofs.Picture.{Given, Ghost, Landing, frame, Comes, comes_then, comes_to, at_once, stays, Under, under_less, Ctx, landings, at, Kept, Fits, Extends, extends_same, Run, run_after, run_then, gives}
+use Rattle.hog_bridge.proofs.Picture.{Given, Ghost, frame, comes_then, comes_to, at_once, stays, Under, under_less, Ctx, landings, at, Fits, extends_same, Run, run_after}
 use Rattle.hog_bridge.proofs.Steps.{kept_on, fits_push}
 use Rattle.hog_bridge.proofs.Parts.{ExpAt}
 use Rattle.hog_bridge.proofs.Exps.{exp_then, fits_on}
 use Rattle.hog_bridge.proofs.Lookups.{null_runs, true_runs}
 use Rattle.hog_bridge.proofs.Operators.{ready_with, text_step}
 use Rattle.hog_bridge.proofs.Writes.{becomes}
-use Rattle.hog_bridge.proofs.Follow.{scoped, GoneOn, StmAt, Follows, run_on, block, for_loop, for_words, over_loop, over_code, over_words, hidden_frame, turn_frame, turn_code}
+use Rattle.hog_bridge.proofs.Follow.{scoped, StmAt, Follows, run_on, block, for_loop, for_words, over_loop, over_code, over_words, turn_frame, turn_code}
 use Rattle.hog_bridge.proofs.Callees.{pop_step}
 use Rattle.hog_bridge.proofs.Blocks.{StmEnd, StmsEnd, PlainEnd, count_name, lets, after_frame, after_words, ArePops, pop_is, pops_after, name_pops, block_are_pops, stm_then, run_leave, plain, fits_local, let_runs, throw_runs, return_runs, test_step, goto_step, run_plain, more_goes}
 use Rattle.hog_bridge.proofs.Assigns.{word_runs, item_runs, property_set_runs, define_runs}

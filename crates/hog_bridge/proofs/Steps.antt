@@ -1,10 +1,9 @@
 -- Single operations on the picture: what is popped, where a throw lands, and how the run ends.
-use Rattle.std.proofs.Common.{◌≡◌, ℕ, zero, suc, ◌+◌, ◌-◌, ◌<◌, ◌≤◌, List, [], ◌∷◌, ◌++◌, length, drop, Option, Some, None, Bool, true, false, cond, refl, sym, ap, ◌∙◌, subst, ◌⊎◌, inl, inr, arith, length-append, append_assoc, append-nil}
+use Rattle.std.proofs.Common.{◌≡◌, ℕ, suc, ◌+◌, ◌-◌, ◌≤◌, List, [], ◌∷◌, ◌++◌, length, drop, Option, Some, None, Bool, true, false, cond, refl, sym, ap, ◌∙◌, subst, inl, inr, arith, length-append, append_assoc, append-nil}
 use Rattle.std.specs.Prelude.{◌*◌, ◌==◌, max, reverse, nat_lt, nat_le, slice_get}
 use Rattle.std.proofs.Math.Seq.{drop-append_seam}
 use Rattle.std.proofs.lemmas.List.{length-reverse, reverse-append}
 use Rattle.std.proofs.lemmas.Bool.Decides.{nat_tests}
-use Rattle.hog_value.specs.declared.value.Kind.{Kind}
 use Rattle.hog_value.specs.declared.trace.End.{End}
 use Rattle.hog_value.specs.declared.trace.End.TheVariants as end
 use Rattle.hog_value.specs.Values.{Val}
@@ -27,8 +26,8 @@ use Rattle.vm_course.specs.Step as vm
 use Rattle.vm_course.specs.Step.{step, at_slot, act, on_with}
 use Rattle.hog_bridge.proofs.Places.{Seat, Temp, Var, shown_seat, stack_of, Distinct, length-stack, close_ups, lower, temps, seat_push}
 use Rattle.hog_bridge.proofs.Ahead.{left, left_later, left_past, left_some}
-use Rattle.hog_bridge.proofs.Heaps.{AllFuns, Keeps}
-use Rattle.hog_bridge.proofs.Picture.{Given, Ghost, Twin, meant, built, Landing, throws_of, frame, pic, phi, psi, Comes, one_step, stops, FunOk, TextsLie, SeesWord, Sees, FrameIn, Lands, Under, Ctx, landings, at, OwnLands, OuterLands, Framed, Kept, Fits, Halts, Extends, Reaches, caught_at, Caught, ThrowEnds}
+use Rattle.hog_bridge.proofs.Heaps.{Keeps}
+use Rattle.hog_bridge.proofs.Picture.{Given, Ghost, Twin, meant, built, Landing, throws_of, frame, pic, phi, psi, one_step, stops, SeesWord, Sees, FrameIn, Lands, Under, Ctx, landings, at, OwnLands, OuterLands, Framed, Kept, Fits, Halts, caught_at, ThrowEnds}
 
 -- where an operation of a frame stands
 abbrev pub floor_in : Ctx → ℕ

@@ -1,30 +1,27 @@
 -- What costs a turn: with any number of turns, the machine follows the meaning.
-use Rattle.std.proofs.Common.{◌≡◌, ℕ, zero, suc, ◌+◌, ◌-◌, ◌<◌, ◌≤◌, ℤ, pos, List, [], ◌∷◌, ◌++◌, length, Option, Some, None, true, false, refl, sym, ap, ◌∙◌, subst, arith}
-use Rattle.std.specs.Prelude.{slice_get}
+use Rattle.std.proofs.Common.{◌≡◌, ℕ, zero, suc, ◌+◌, ◌≤◌, ℤ, pos, List, [], ◌∷◌, ◌++◌, length, true, refl, sym, subst, arith}
 use Rattle.hog_value.specs.Values.{Val}
-use Rattle.hog_value.specs.declared.value.Value.TheVariants.{Null}
-use Rattle.hog_tree.specs.Plain.{Word, Exp, Stms, Body, OneExp, ManyStms, OptionExp, OptionStm, While}
-use Rattle.hog_captures.specs.Frees.{exp_frees, stms_frees, body_frees, option_exp_frees, option_stm_frees, without}
+use Rattle.hog_tree.specs.Plain.{Word, Stms, Body, OneExp, ManyStms, OptionExp, OptionStm, While}
+use Rattle.hog_captures.specs.Frees.{stms_frees, body_frees, option_exp_frees, option_stm_frees, without}
 use Rattle.hog_captures.specs.Frames as names
 use Rattle.hog_compiler.specs.Pieces.{one, key_count, more_code, pops, return_null}
 use Rattle.hog_compiler.specs.Code.{exp_code, stms_code, block_pops, body_code, option_stm_code, option_name_pop}
-use Rattle.hog_meaning.specs.World.{Env, World, Got, Gives, and_then, Flow, GoesOn, Returns}
-use Rattle.hog_meaning.specs.Meaning.{Effect, Copies, Call, LoopOver, LoopWithStep, effects, begin, condition, run_for, run_over, fall, body_effect, effect_at}
+use Rattle.hog_meaning.specs.World.{Env, World, Gives, Flow, GoesOn, Returns}
+use Rattle.hog_meaning.specs.Meaning.{Effect, Copies, effects, begin, condition, run_for, run_over, fall, body_effect, effect_at}
 use Rattle.hog_ops.specs.Plain as o
 use Rattle.hog_ops.specs.Plain.{Ops, NoOp, MoreOp, ◌⊕◌}
 use Rattle.hog_ops.specs.Table.{span}
 use Rattle.vm_course.specs.State.{State}
 use Rattle.hog_bridge.proofs.Words.{Sub, sub_left, sub_right, sub_past, sub_name, with_word}
 use Rattle.hog_bridge.proofs.Resolved.{BodyOk, StmsOk, OptionExpOk, OptionStmOk}
-use Rattle.hog_bridge.proofs.Places.{Seat, Temp}
+use Rattle.hog_bridge.proofs.Places.{Seat}
 use Rattle.hog_bridge.proofs.Ahead.{HasAt, has_front, has_back, span-after}
-use Rattle.hog_bridge.proofs.Picture.{Given, Ghost, comes_then, at_once, stays, Under, under_less, Ctx, landings, at, Fits, extends_same, Run, run_after, run_then, gives}
-use Rattle.hog_bridge.proofs.Parts.{ExpAt}
+use Rattle.hog_bridge.proofs.Picture.{Given, Ghost, at_once, stays, Under, under_less, Ctx, landings, at, Fits, extends_same, Run, run_after, run_then, gives}
 use Rattle.hog_bridge.proofs.Exps.{exp_then, fits_on}
 use Rattle.hog_bridge.proofs.Lookups.{null_runs}
 use Rattle.hog_bridge.proofs.Operators.{ready_with}
 use Rattle.hog_bridge.proofs.Follow.{scoped, StmAt, BodyAt, Follows, block, for_loop, for_words, over_loop, over_code, over_words, hidden_seats, turn_frame, turn_code, InRange}
-use Rattle.hog_bridge.proofs.Blocks.{StmsEnd, PlainEnd, after_frame, after_words, lets, run_leave, return_reaches}
+use Rattle.hog_bridge.proofs.Blocks.{PlainEnd, after_frame, after_words, lets, run_leave, return_reaches}
 use Rattle.hog_bridge.proofs.Loops.{loop_end}
 use Rattle.hog_bridge.proofs.Overs.{hidden, seats}
 use Rattle.hog_bridge.proofs.Rounds.{over_runs, has_loop, has_stms, pb, pe, in_row}

@@ -1,10 +1,10 @@
 -- Words in lists of words.
-use Rattle.std.proofs.Common.{◌≡◌, ◌≢◌, ℕ, zero, suc, List, [], ◌∷◌, ◌++◌, length, Option, Some, None, Bool, true, false, cond, refl, sym, ap, ◌∙◌, subst, ◌⊎◌, inl, inr, ⊎_elim}
+use Rattle.std.proofs.Common.{◌≡◌, ◌≢◌, ℕ, zero, List, [], ◌∷◌, ◌++◌, Option, Some, None, Bool, true, false, cond, refl, sym, ◌∙◌, subst, ◌⊎◌, inl, inr, ⊎_elim}
 use Rattle.std.specs.Prelude.{bytes_eq}
 use Rattle.std.proofs.lemmas.Slice.Eq.{bytes_eq-Decides}
 use Rattle.hog_tree.specs.Plain.{Word}
 use Rattle.hog_captures.specs.Frees.{without, without_all, without_name}
-use Rattle.hog_captures.specs.Frames.{Frame, find_local, find_up, next_index, knows, captured_of}
+use Rattle.hog_captures.specs.Frames.{Frame, find_up, next_index, knows, captured_of}
 
 -- two words are the same, or the test says that they aren't
 abbrev pub Tells : Word → Word → Type 0

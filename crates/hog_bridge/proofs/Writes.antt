@@ -1,5 +1,5 @@
 -- A new variable, and a write to one.
-use Rattle.std.proofs.Common.{◌≡◌, ◌≢◌, ℕ, zero, suc, ◌+◌, ◌-◌, ◌<◌, ◌≤◌, List, [], ◌∷◌, ◌++◌, length, map, Option, Some, None, Bool, true, false, cond, refl, sym, ap, ◌∙◌, subst, ◌⊎◌, inl, inr, ⊎_elim, arith, length-append}
+use Rattle.std.proofs.Common.{◌≡◌, ◌≢◌, ℕ, zero, suc, ◌+◌, ◌<◌, ◌≤◌, List, [], ◌∷◌, ◌++◌, length, Option, Some, None, Bool, true, false, cond, refl, sym, ap, ◌∙◌, subst, ◌⊎◌, inl, inr, ⊎_elim, arith, length-append}
 use Rattle.std.specs.Prelude.{◌==◌, bytes_eq, slice_get, slice_set}
 use Rattle.std.proofs.lemmas.List.{get_or_append_left, get_or-set_same, get_or-set_other, length-set}
 use Rattle.std.proofs.lemmas.Option.{unwrap_or-slice_get}
@@ -11,10 +11,10 @@ use Rattle.hog_tree.specs.Plain.{Word}
 use Rattle.hog_captures.specs.Frames as names
 use Rattle.hog_captures.specs.Frames.{find_local, find_up, with_local}
 use Rattle.hog_meaning.specs.World.{World, Env, find_var, declare, write_var}
-use Rattle.vm_course.specs.State.{Upvalue, Opened, Closed, Frame, State}
+use Rattle.vm_course.specs.State.{Closed, Frame}
 use Rattle.vm_course.specs.Stack.{with_value, one_on}
 use Rattle.hog_bridge.proofs.Words.{In, Tells, word_tells}
-use Rattle.hog_bridge.proofs.Places.{Seat, Temp, Var, read, shown_seat, seat_at, place_of, up_of, up_of_place, stack_of, ups_of, owner_of, Distinct, length-stack, placed, temps}
+use Rattle.hog_bridge.proofs.Places.{Seat, Temp, Var, read, seat_at, place_of, up_of, up_of_place, stack_of, ups_of, owner_of, Distinct, length-stack, placed, temps}
 use Rattle.hog_bridge.proofs.Picture.{Given, Ghost, Landing, pic, Owned, Kept, SeesWord, Sees}
 use Rattle.hog_bridge.proofs.Steps.{sees_push}
 

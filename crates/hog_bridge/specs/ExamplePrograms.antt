@@ -1,7 +1,7 @@
 -- Small programs, as plain trees; above each its text.
 use Rattle.std.specs.Prelude.{ℕ, List, [], ◌∷◌, pos, true, Some, None, codes}
 use Rattle.hog_tree.specs.declared.tree.BinaryOp.TheVariants.{And, Or, Equal, Less, Plus, Minus, Times}
-use Rattle.hog_tree.specs.Plain.{Word, Exp, Exps, Pairs, Stm, Stms, Int, Truth, Text, Template, Name, Array, Dict, Binary, Coalesce, Prop, PropNullish, Index, Call, Lambda, NoExp, MoreExp, NoPart, MoreText, MoreHole, NoPair, MorePair, OneExp, ManyStms, Let, Assign, Do, Return, Throw, If, While, For, ForIn, Fun, Try, Block, Done, Then, NoneExp, SomeExp, SomeStm, NoneStms}
+use Rattle.hog_tree.specs.Plain.{Word, Exp, Exps, Pairs, Stm, Stms, Int, Truth, Text, Template, Name, Array, Dict, Binary, Coalesce, Prop, PropNullish, Index, Call, Lambda, NoExp, MoreExp, NoPart, MoreText, MoreHole, NoPair, MorePair, OneExp, ManyStms, Let, Assign, Do, Return, Throw, If, While, For, ForIn, Fun, Try, Block, Done, Then, NoneExp, SomeExp, NoneStm, SomeStm, NoneStms}
 
 -- a statement, and those after it
 infixr 5 ◌⨾◌
@@ -220,6 +220,19 @@ try_in_a_loop =
     ⨾ Done) e (Assign (Name n) (Binary Plus (Name n) (Name e)) ⨾ Done)
     ⨾ Done)
     ⨾ gives (Name n)
+    ⨾ Done
+
+-- What a step declares is seen in that step alone: the condition and the block mean the variable around. No text has such a
+-- step, but a tree may.
+--     let i := 0;
+--     for (; i < 2; let i := 5) { i := i + 1; }
+--     return i;
+abbrev pub declared_in_a_step : Stms
+declared_in_a_step =
+    Let i (SomeExp (num 0))
+    ⨾ For NoneStm (SomeExp (Binary Less (Name i) (num 2))) (SomeStm (Let i (SomeExp (num 5))))
+    (Assign (Name i) (Binary Plus (Name i) (num 1)) ⨾ Done)
+    ⨾ gives (Name i)
     ⨾ Done
 
 -- A word that is declared nowhere is a global, and one that isn't there is null.

@@ -1,4 +1,5 @@
--- How the machine's course on the code of a program stands to what the program means, and how long it is at most.
+-- How the machine's course on the code of a program stands to what the program means, and how long it is at most; and
+-- which texts that code makes first.
 use Rattle.std.specs.Prelude.{◌≡◌, ℕ, suc, ◌+◌, ◌*◌, ◌≤◌, List, ◌++◌, [], Some, Ok}
 use Rattle.hog_value.specs.declared.trace.TraceItem.{TraceItem}
 use Rattle.hog_value.specs.declared.trace.End.{End}
@@ -6,13 +7,13 @@ use Rattle.hog_value.specs.Cells.{HeapOf, heap_map}
 use Rattle.hog_tree.specs.Plain.{Stms}
 use Rattle.hog_scope.specs.declared.item.Item.{Item}
 use Rattle.hog_scope.specs.Scopes.{items_of}
+use Rattle.hog_scope.specs.Literals.{literals_of}
 use Rattle.hog_ops.specs.Plain.{Op, Ops, NoOp, MoreOp, Callable}
 use Rattle.hog_compiler.specs.Code.{code_of}
 use Rattle.hog_meaning.specs.World.{Reply, World, Got, Gives, Throws, Waits, Spends, Flow}
 use Rattle.hog_meaning.specs.Program.{outcome, meaning}
 use Rattle.vm_course.specs.State.{State, Waiting, Ended}
-use Rattle.vm_course.specs.Course.{machine, IsOver, IsDefined}
-use Rattle.hog_bridge.specs.Steady.{StmsSteady}
+use Rattle.vm_course.specs.Course.{machine, literals_of_code, IsOver, IsDefined}
 
 -- how many operations a code has, those of its bodies too
 abbrev mutual
@@ -57,9 +58,8 @@ pub record IsOnMeaning (program : Stms) (globals : List ℕ) (replies : List Rep
   -- a wait at which all replies are used is the meaning's wait
   pub waits : (k : ℕ) → (course program globals replies k).mode ≡ Waiting → (course program globals replies k).replies ≡ [] → WaitsAlike (outcome program globals replies) (course program globals replies k)
 
--- The names of a program are without fault, and no step of a `for` declares one.
+-- The names of a program are without fault: each word that names something has its item.
 pub record IsNamed (program : Stms) : Type 0 where
-  pub steady : StmsSteady program
   pub items : List Item
   pub resolved : items_of program ≡ Ok items
 
@@ -75,3 +75,7 @@ CourseIsBounded = (program : Stms) → IsNamed program → (globals : List ℕ) 
 -- every course ends, or waits with all replies used
 abbrev pub CourseRests : Type 0
 CourseRests = (program : Stms) → IsNamed program → (globals : List ℕ) (replies : List Reply) → (k : ℕ) × IsOver (course program globals replies k)
+
+-- the texts that a code makes as its first cells are the literal texts of its program
+abbrev pub LiteralsAreSame : Type 0
+LiteralsAreSame = (program : Stms) (names : IsNamed program) → literals_of_code (code_of program) ≡ literals_of program names.items

@@ -1,4 +1,3 @@
 pub mod ExamplePrograms
 pub mod Examples
-pub mod Steady
 pub mod Laws

@@ -72,6 +72,11 @@ pub fn try_in_a_loop()
     ensures { ShowsBothWays program.try_in_a_loop (codes "{}") [] 70 3 [] (Some (Done (codes "21"))) }
 {}
 
+/// What a step declares is seen in that step alone.
+pub fn declared_in_a_step()
+    ensures { ShowsBothWays program.declared_in_a_step (codes "{}") [] 29 2 [] (Some (Done (codes "2"))) }
+{}
+
 /// A word that is declared nowhere is a global, and one that isn't there is null.
 pub fn globals_read()
     ensures { ShowsBothWays program.globals_read (codes "{\"inputs\":{\"url\":\"u\"}}") [] 15 0 [] (Some (Done (codes "['u', 'none', null]"))) }

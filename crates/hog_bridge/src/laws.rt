@@ -1,7 +1,7 @@
-//! How the machine's course on the code of a program stands to what the program means. The functions do nothing: their
-//! clauses are the laws.
+//! How the machine's course on the code of a program stands to what the program means, and which texts that code makes
+//! first. The functions do nothing: their clauses are the laws.
 
-ghost use Rattle.hog_bridge.specs.Laws.{CourseIsMeaning, CourseIsBounded, CourseRests};
+ghost use Rattle.hog_bridge.specs.Laws.{CourseIsMeaning, CourseIsBounded, CourseRests, LiteralsAreSame};
 
 /// Every course on the code of a program whose names are right shows exactly what the program means.
 pub fn course_is_meaning()
@@ -16,4 +16,9 @@ pub fn course_is_bounded()
 /// Every course ends, or waits with all replies used.
 pub fn course_rests()
     ensures { CourseRests }
+{}
+
+/// The literal texts of a program's code are those of the program.
+pub fn literals_are_same()
+    ensures { LiteralsAreSame }
 {}

@@ -4,7 +4,7 @@ use Rattle.hog_ops.specs.Plain.{Ops, ◌⊕◌}
 use Rattle.hog_tree.specs.declared.tree.Stmt.{Stmt}
 use Rattle.hog_tree.specs.View.{stm_of, stms_from}
 use Rattle.hog_captures.specs.Frees.{stms_frees}
-use Rattle.hog_compiler.specs.Adds.{Adds}
+use Rattle.hog_compiler.specs.AddsCode.{AddsCode}
 use Rattle.hog_compiler.specs.Code.{name_pop, block_pops}
 use Rattle.hog_compiler.proofs.Joins.{adds_then, adds_at}
 
@@ -16,8 +16,8 @@ pops_one (y ∷ xs) (suc at) s lt is = pops_one xs at s (omega arith) is
 
 -- one local more comes off
 pub adds_pop : {a b c : Ops} (xs : List Stmt) (at rest : ℕ) (s : Stmt) → at < length xs → rest ≡ suc at → s ≡ get_or xs at s
-    → Adds a b (block_pops (stms_from (drop rest xs))) → Adds b c (name_pop (stm_of s) (stms_frees false (stms_from (drop rest xs))))
-    → Adds a c (block_pops (stms_from (drop at xs)))
+    → AddsCode a b (block_pops (stms_from (drop rest xs))) → AddsCode b c (name_pop (stm_of s) (stms_frees false (stms_from (drop rest xs))))
+    → AddsCode a c (block_pops (stms_from (drop at xs)))
 adds_pop xs at rest s lt next is h k =
     let same = ap (λ n. block_pops (stms_from (drop n xs)) ⊕ name_pop (stm_of s) (stms_frees false (stms_from (drop n xs)))) next in
     adds_at (same ∙ sym (pops_one xs at s lt is)) (adds_then h k)

@@ -10,7 +10,7 @@ use Rattle.hog_captures.specs.Frees.{without_all, name_by, option_name_by, stms_
 use Rattle.hog_captures.specs.Frames.{Frame, find_local, find_up, captures_of, with_local, with_name, with_hidden, inner_frame}
 use Rattle.hog_compiler.specs.Pieces.{one, lambda_name, key_count}
 use Rattle.hog_compiler.specs.Code.{parts_count, pairs_count, called_native, call_code, name_pop, option_name_pop, block_pops, lambda_captured, fun_captured, exp_code, exps_code, parts_code, pairs_code, body_code, stm_code, stms_code, value_code, option_stm_code}
-use Rattle.hog_compiler.specs.Nesting.{exp_nesting, exps_nesting, parts_nesting, pairs_nesting, body_nesting, stm_nesting, stms_nesting, option_exp_nesting, option_stm_nesting}
+use Rattle.hog_tree.specs.Nesting.{exp_nesting, exps_nesting, parts_nesting, pairs_nesting, body_nesting, stm_nesting, stms_nesting, option_exp_nesting, option_stm_nesting}
 use Rattle.hog_compiler.proofs.Fine.{Fine, fine_none, fine_join, fine_more, fine_one, fine_coalesce, fine_if, fine_if_else, fine_try}
 use Rattle.hog_compiler.proofs.FineLoops.{any_count, fine_loop, fine_native, fine_fun, fine_truth, fine_read, fine_write, fine_pop, fine_null, fine_for_in, fine_binary}
 

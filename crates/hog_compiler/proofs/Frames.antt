@@ -7,7 +7,7 @@ use Rattle.hog_tree.specs.declared.tree.Stmt.{Stmt}
 use Rattle.hog_tree.specs.View.{stm_of, stms_from}
 use Rattle.hog_captures.specs.Frees.{name_by}
 use Rattle.hog_captures.specs.Frames.{Frame, with_local, with_name, with_hidden}
-use Rattle.hog_compiler.specs.Adds.{Adds}
+use Rattle.hog_compiler.specs.AddsCode.{AddsCode}
 use Rattle.hog_compiler.specs.Code.{stm_code, stms_code}
 use Rattle.hog_compiler.proofs.Joins.{adds_then, adds_at}
 use Rattle.hog_compiler.proofs.Lists.{one_more}
@@ -54,8 +54,8 @@ stms_more fr (x ∷ xs) s =
     ∙ sym (join_assoc (stm_code fr (stm_of x)) (stms_code inside (stms_from xs)) (stm_code (after inside (stms_from xs)) (stm_of s)))
 
 pub adds_stm : {a b c : Ops} (fr : Frame) (xs : List Stmt) (i : ℕ) (s : Stmt) → i < length xs → s ≡ get_or xs i s
-    → Adds a b (stms_code fr (stms_from (take i xs))) → Adds b c (stm_code (after fr (stms_from (take i xs))) (stm_of s))
-    → Adds a c (stms_code fr (stms_from (take (i + 1) xs)))
+    → AddsCode a b (stms_code fr (stms_from (take i xs))) → AddsCode b c (stm_code (after fr (stms_from (take i xs))) (stm_of s))
+    → AddsCode a c (stms_code fr (stms_from (take (i + 1) xs)))
 adds_stm fr xs i s lt is h k =
     adds_at (sym (stms_more fr (take i xs) s) ∙ ap (λ ys. stms_code fr (stms_from ys)) (sym (one_more xs i s lt is))) (adds_then h k)
 

@@ -15,9 +15,9 @@ use Rattle.hog_tree.specs.declared.tree.Stmt.{Stmt}
 use Rattle.hog_tree.specs.Count.{of_exp, of_exps, of_parts, of_pairs, of_stm, of_stms}
 use Rattle.hog_tree.specs.View.{exp_of, exps_from, part_of, parts_from, pairs_from, stm_of, stms_from}
 use Rattle.hog_captures.specs.Frames.{Frame}
-use Rattle.hog_compiler.specs.Adds.{Adds}
+use Rattle.hog_compiler.specs.AddsCode.{AddsCode}
 use Rattle.hog_compiler.specs.Code.{parts_count, pairs_count, exp_code, exps_code, parts_code, pairs_code}
-use Rattle.hog_compiler.specs.Nesting.{exp_nesting, exps_nesting, parts_nesting, pairs_nesting, stm_nesting, stms_nesting}
+use Rattle.hog_tree.specs.Nesting.{exp_nesting, exps_nesting, parts_nesting, pairs_nesting, stm_nesting, stms_nesting}
 use Rattle.hog_compiler.proofs.Joins.{adds_then, adds_at}
 
 -- the first items and one more
@@ -28,10 +28,10 @@ one_more xs i x lt is = take_more xs i x lt ∙ ap (λ y. take i xs ++ y ∷ [])
 
 module _ {X : Type 0} (code : List X → Ops) (more : (xs ys : List X) → code (xs ++ ys) ≡ code xs ⊕ code ys) where
   pub adds_more : {a b c : Ops} (xs : List X) (i : ℕ) (x : X) → i < length xs → x ≡ get_or xs i x
-      → Adds a b (code (take i xs)) → Adds b c (code (x ∷ [])) → Adds a c (code (take (i + 1) xs))
+      → AddsCode a b (code (take i xs)) → AddsCode b c (code (x ∷ [])) → AddsCode a c (code (take (i + 1) xs))
   adds_more xs i x lt is h k = adds_at (sym (more (take i xs) (x ∷ [])) ∙ ap code (sym (one_more xs i x lt is))) (adds_then h k)
 
-pub adds_all : {X : Type 0} (code : List X → Ops) {a b : Ops} (xs : List X) (i : ℕ) → length xs ≤ i → Adds a b (code (take i xs)) → Adds a b (code xs)
+pub adds_all : {X : Type 0} (code : List X → Ops) {a b : Ops} (xs : List X) (i : ℕ) → length xs ≤ i → AddsCode a b (code (take i xs)) → AddsCode a b (code xs)
 adds_all code xs i le h = adds_at (ap code (take_all i xs le)) h
 
 pub exps_more : (fr : Frame) (xs ys : List Expr) → exps_code fr (exps_from (xs ++ ys)) ≡ exps_code fr (exps_from xs) ⊕ exps_code fr (exps_from ys)

@@ -16,10 +16,10 @@ use Rattle.hog_tree.specs.declared.tree.ArrowBody.TheViews.{out-DictItems}
 use Rattle.hog_tree.specs.View.{exp_of, exps_from, parts_from, pairs_from, dict_of}
 use Rattle.hog_tree.proofs.Rows.{template_is, array_is, call_is, dict_is}
 use Rattle.hog_captures.specs.Frames.{Frame}
-use Rattle.hog_compiler.specs.Adds.{Adds}
+use Rattle.hog_compiler.specs.AddsCode.{AddsCode}
 use Rattle.hog_compiler.specs.Pieces.{one, return_null}
 use Rattle.hog_compiler.specs.Code.{pairs_count, called_native, call_code, exp_code, exps_code, parts_code, pairs_code, body_code, stms_code}
-use Rattle.hog_compiler.specs.Nesting.{deepest, exp_nesting, body_nesting, stm_nesting, stms_nesting}
+use Rattle.hog_tree.specs.Nesting.{deepest, exp_nesting, body_nesting, stm_nesting, stms_nesting}
 use Rattle.hog_compiler.proofs.Joins.{adds_then}
 use Rattle.hog_compiler.proofs.Fine.{Fine, fine_join}
 use Rattle.hog_compiler.proofs.FineLoops.{fine_null}
@@ -73,15 +73,15 @@ call_same fr f xs x n w is count native =
 
 -- ---- what is written into an empty draft
 
-pub written : {a b x : Ops} → a ≡ NoOp → Adds a b x → b ≡ x
+pub written : {a b x : Ops} → a ≡ NoOp → AddsCode a b x → b ≡ x
 written {a} {b} {x} empty adds = adds.is ∙ ap (λ os. os ⊕ x) empty
 
 raised : {x y : Ops} → x ≡ y → Fine deepest y → Fine deepest x
 raised same fine = subst (Fine deepest) (sym same) fine
 
-pub lambda_fine : (fr : Frame) (bd : Body) {a b : Ops} → a ≡ NoOp → Adds a b (body_code fr bd) → exp_nesting (p.Lambda [] bd) ≤ deepest → Fine deepest b
+pub lambda_fine : (fr : Frame) (bd : Body) {a b : Ops} → a ≡ NoOp → AddsCode a b (body_code fr bd) → exp_nesting (p.Lambda [] bd) ≤ deepest → Fine deepest b
 lambda_fine fr bd empty adds low = raised (written empty adds) (body_fine bd deepest fr (omega arith))
 
-pub function_fine : (fr : Frame) (ss : Stms) {a b d : Ops} → a ≡ NoOp → Adds a b (stms_code fr ss) → Adds b d return_null → stms_nesting ss ≤ deepest → Fine deepest d
+pub function_fine : (fr : Frame) (ss : Stms) {a b d : Ops} → a ≡ NoOp → AddsCode a b (stms_code fr ss) → AddsCode b d return_null → stms_nesting ss ≤ deepest → Fine deepest d
 function_fine fr ss empty adds ends low =
     raised (written empty (adds_then adds ends)) (fine_join (stms_fine ss deepest fr low) (fine_null deepest))

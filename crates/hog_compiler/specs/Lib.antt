@@ -1,6 +1,5 @@
 pub mod Pieces
 pub mod Code
-pub mod Adds
+pub mod AddsCode
 pub mod Itself
-pub mod Nesting
 pub mod Examples

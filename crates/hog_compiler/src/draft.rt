@@ -4,7 +4,7 @@ ghost use Rattle.std.specs.Prelude.{◌≡◌, ◌+◌, IfOk, OnOk};
 ghost use Rattle.hog_ops.specs.Plain.{NoOp};
 ghost use Rattle.hog_ops.specs.View.{op_of};
 ghost use Rattle.hog_ops.specs.Table.{span};
-ghost use Rattle.hog_compiler.specs.Adds.{Adds};
+ghost use Rattle.hog_compiler.specs.AddsCode.{AddsCode};
 ghost use Rattle.hog_compiler.specs.Pieces.{one};
 
 use hog_ops::{Code, Op};
@@ -75,7 +75,7 @@ impl Draft {
 
     /// With one operation more.
     pub fn push(&mut self, op: Op) -> Result<(), AllocError>
-        ensures { OnOk result (Adds self.old self.new (one (op_of op))) }
+        ensures { OnOk result (AddsCode self.old self.new (one (op_of op))) }
     {
         let elements = together(self.elements, op.len())?;
         self.ops.push(op)?;
@@ -85,7 +85,7 @@ impl Draft {
 
     /// With the operations of another behind.
     pub fn append(&mut self, mut other: Draft) -> Result<(), AllocError>
-        ensures { OnOk result (Adds self.old self.new other) }
+        ensures { OnOk result (AddsCode self.old self.new other) }
     {
         let elements = together(self.elements, other.elements as usize)?;
         self.ops.append(&mut other.ops)?;

@@ -5,9 +5,9 @@ ghost use Rattle.std.specs.Prelude.{◌≡◌, ◌≤◌, OnOk};
 ghost use Rattle.hog_ops.specs.View.{op_of};
 ghost use Rattle.hog_tree.specs.Plain.{NoPart, Lambda, Assign, If, For, ForIn, Fun, Try};
 ghost use Rattle.hog_tree.specs.View.{words_of, option_word_of, exp_of, exps_from, part_of, parts_from, dict_of, body_of, stm_of, stms_from, option_exp_from, option_stm_from, option_stms_from};
-ghost use Rattle.hog_compiler.specs.Adds.{Adds};
+ghost use Rattle.hog_compiler.specs.AddsCode.{AddsCode};
 ghost use Rattle.hog_compiler.specs.Code.{exp_code, exps_code, parts_code, pairs_code, body_code, stm_code, stms_code, value_code, option_stm_code, block_code};
-ghost use Rattle.hog_compiler.specs.Nesting.{deepest, exp_nesting, exps_nesting, parts_nesting, pairs_nesting, body_nesting, stm_nesting, stms_nesting, option_exp_nesting, option_stm_nesting};
+ghost use Rattle.hog_tree.specs.Nesting.{deepest, exp_nesting, exps_nesting, parts_nesting, pairs_nesting, body_nesting, stm_nesting, stms_nesting, option_exp_nesting, option_stm_nesting};
 
 use crate::draft::Draft;
 use crate::items::key_count;
@@ -26,7 +26,7 @@ use std::alloc::AllocError;
 #[cycle(forms)]
 fn expr<'t>(out: &mut Draft, frame: &Frame<'t>, e: &'t Expr) -> Result<(), AllocError>
     requires { exp_nesting (exp_of e.now) ≤ deepest }
-    ensures { OnOk result (Adds out.old out.new (exp_code frame.now (exp_of e.now))) }
+    ensures { OnOk result (AddsCode out.old out.new (exp_code frame.now (exp_of e.now))) }
 {
     match e {
         Expr::Int(n) => out.push(Op::Integer(*n)),
@@ -102,7 +102,7 @@ fn expr<'t>(out: &mut Draft, frame: &Frame<'t>, e: &'t Expr) -> Result<(), Alloc
 #[cycle(forms)]
 fn exprs<'t>(out: &mut Draft, frame: &Frame<'t>, es: &'t Exprs) -> Result<(), AllocError>
     requires { exps_nesting (exps_from es.now.list.items) ≤ deepest }
-    ensures { OnOk result (Adds out.old out.new (exps_code frame.now (exps_from es.now.list.items))) }
+    ensures { OnOk result (AddsCode out.old out.new (exps_code frame.now (exps_from es.now.list.items))) }
 {
     for e in &es.list {
         expr(out, frame, e)?;
@@ -113,7 +113,7 @@ fn exprs<'t>(out: &mut Draft, frame: &Frame<'t>, es: &'t Exprs) -> Result<(), Al
 #[cycle(forms)]
 fn part<'t>(out: &mut Draft, frame: &Frame<'t>, p: &'t Part) -> Result<(), AllocError>
     requires { parts_nesting (part_of p.now NoPart) ≤ deepest }
-    ensures { OnOk result (Adds out.old out.new (parts_code frame.now (part_of p.now NoPart))) }
+    ensures { OnOk result (AddsCode out.old out.new (parts_code frame.now (part_of p.now NoPart))) }
 {
     match p {
         Part::Text(text) => out.push(Op::Str(text.copy()?)),
@@ -124,7 +124,7 @@ fn part<'t>(out: &mut Draft, frame: &Frame<'t>, p: &'t Part) -> Result<(), Alloc
 #[cycle(forms)]
 fn parts<'t>(out: &mut Draft, frame: &Frame<'t>, ps: &'t Parts) -> Result<(), AllocError>
     requires { parts_nesting (parts_from ps.now.list.items) ≤ deepest }
-    ensures { OnOk result (Adds out.old out.new (parts_code frame.now (parts_from ps.now.list.items))) }
+    ensures { OnOk result (AddsCode out.old out.new (parts_code frame.now (parts_from ps.now.list.items))) }
 {
     for p in &ps.list {
         part(out, frame, p)?;
@@ -135,7 +135,7 @@ fn parts<'t>(out: &mut Draft, frame: &Frame<'t>, ps: &'t Parts) -> Result<(), Al
 #[cycle(forms)]
 fn dict_items<'t>(out: &mut Draft, frame: &Frame<'t>, ds: &'t DictItems) -> Result<(), AllocError>
     requires { pairs_nesting (dict_of ds.now) ≤ deepest }
-    ensures { OnOk result (Adds out.old out.new (pairs_code frame.now (dict_of ds.now))) }
+    ensures { OnOk result (AddsCode out.old out.new (pairs_code frame.now (dict_of ds.now))) }
 {
     for item in &ds.list {
         expr(out, frame, &item.key)?;
@@ -152,7 +152,7 @@ fn lambda<'t>(
     body: &'t ArrowBody,
 ) -> Result<(), AllocError>
     requires { exp_nesting (Lambda (words_of params.now) (body_of body.now)) ≤ deepest }
-    ensures { OnOk result (Adds out.old out.new
+    ensures { OnOk result (AddsCode out.old out.new
         (exp_code frame.now (Lambda (words_of params.now) (body_of body.now)))) }
 {
     let alloc = out.allocator();
@@ -172,7 +172,7 @@ fn arrow_body<'t>(
     body: &'t ArrowBody,
 ) -> Result<(), AllocError>
     requires { body_nesting (body_of body.now) ≤ deepest }
-    ensures { OnOk result (Adds out.old out.new (body_code frame.old (body_of body.now))) }
+    ensures { OnOk result (AddsCode out.old out.new (body_code frame.old (body_of body.now))) }
 {
     match body {
         ArrowBody::One(e) => {
@@ -195,7 +195,7 @@ fn value<'t>(
     absent: Op,
 ) -> Result<(), AllocError>
     requires { option_exp_nesting (option_exp_from x.now) ≤ deepest }
-    ensures { OnOk result (Adds out.old out.new (value_code frame.now (op_of absent) (option_exp_from x.now))) }
+    ensures { OnOk result (AddsCode out.old out.new (value_code frame.now (op_of absent) (option_exp_from x.now))) }
 {
     match x {
         Some(e) => expr(out, frame, e),
@@ -210,7 +210,7 @@ fn option_stmt<'t>(
     s: &'t Option<Box<Stmt>>,
 ) -> Result<(), AllocError>
     requires { option_stm_nesting (option_stm_from s.now) ≤ deepest }
-    ensures code { OnOk result (Adds out.old out.new (option_stm_code frame.old (option_stm_from s.now))) }
+    ensures code { OnOk result (AddsCode out.old out.new (option_stm_code frame.old (option_stm_from s.now))) }
     ensures frame { OnOk result (frame.new ≡ frame.old) }
 {
     match s {
@@ -222,7 +222,7 @@ fn option_stmt<'t>(
 #[cycle(forms)]
 fn stmt<'t>(out: &mut Draft, frame: &mut Frame<'t>, s: &'t Stmt) -> Result<(), AllocError>
     requires { stm_nesting (stm_of s.now) ≤ deepest }
-    ensures code { OnOk result (Adds out.old out.new (stm_code frame.old (stm_of s.now))) }
+    ensures code { OnOk result (AddsCode out.old out.new (stm_code frame.old (stm_of s.now))) }
     ensures frame { OnOk result (frame.new ≡ frame.old) }
 {
     match s {
@@ -266,7 +266,7 @@ fn assign<'t>(
     x: &'t Expr,
 ) -> Result<(), AllocError>
     requires { stm_nesting (Assign (exp_of target.now) (exp_of x.now)) ≤ deepest }
-    ensures { OnOk result (Adds out.old out.new (stm_code frame.now (Assign (exp_of target.now) (exp_of x.now)))) }
+    ensures { OnOk result (AddsCode out.old out.new (stm_code frame.now (Assign (exp_of target.now) (exp_of x.now)))) }
 {
     match target {
         Expr::Name(name) => {
@@ -303,7 +303,7 @@ fn choice<'t>(
     other: &'t Option<Stmts>,
 ) -> Result<(), AllocError>
     requires { stm_nesting (If (exp_of condition.now) (stms_from body.now.list.items) (option_stms_from other.now)) ≤ deepest }
-    ensures code { OnOk result (Adds out.old out.new
+    ensures code { OnOk result (AddsCode out.old out.new
         (stm_code frame.old (If (exp_of condition.now) (stms_from body.now.list.items) (option_stms_from other.now)))) }
     ensures frame { OnOk result (frame.new ≡ frame.old) }
 {
@@ -330,7 +330,7 @@ fn counting<'t>(
     body: &'t Stmts,
 ) -> Result<(), AllocError>
     requires { stm_nesting (For (option_stm_from start.now) (option_exp_from condition.now) (option_stm_from step.now) (stms_from body.now.list.items)) ≤ deepest }
-    ensures code { OnOk result (Adds out.old out.new
+    ensures code { OnOk result (AddsCode out.old out.new
         (stm_code frame.old (For (option_stm_from start.now) (option_exp_from condition.now) (option_stm_from step.now) (stms_from body.now.list.items)))) }
     ensures frame { OnOk result (frame.new ≡ frame.old) }
 {
@@ -359,7 +359,7 @@ fn over_items<'t>(
     body: &'t Stmts,
 ) -> Result<(), AllocError>
     requires { stm_nesting (ForIn (option_word_of key.now) name.now.word (exp_of list.now) (stms_from body.now.list.items)) ≤ deepest }
-    ensures code { OnOk result (Adds out.old out.new
+    ensures code { OnOk result (AddsCode out.old out.new
         (stm_code frame.old (ForIn (option_word_of key.now) name.now.word (exp_of list.now) (stms_from body.now.list.items)))) }
     ensures frame { OnOk result (frame.new ≡ frame.old) }
 {
@@ -378,7 +378,7 @@ fn over_items<'t>(
 #[cycle(forms)]
 fn function<'t>(out: &mut Draft, frame: &mut Frame<'t>, fun: &'t FunTree) -> Result<(), AllocError>
     requires { stm_nesting (Fun fun.now.name.word (words_of fun.now.params) (stms_from fun.now.body.list.items)) ≤ deepest }
-    ensures code { OnOk result (Adds out.old out.new
+    ensures code { OnOk result (AddsCode out.old out.new
         (stm_code frame.old (Fun fun.now.name.word (words_of fun.now.params) (stms_from fun.now.body.list.items)))) }
     ensures frame { OnOk result (frame.new ≡ frame.old) }
 {
@@ -404,7 +404,7 @@ fn guarded<'t>(
     handler: &'t Stmts,
 ) -> Result<(), AllocError>
     requires { stm_nesting (Try (stms_from body.now.list.items) name.now.word (stms_from handler.now.list.items)) ≤ deepest }
-    ensures code { OnOk result (Adds out.old out.new
+    ensures code { OnOk result (AddsCode out.old out.new
         (stm_code frame.old (Try (stms_from body.now.list.items) name.now.word (stms_from handler.now.list.items)))) }
     ensures frame { OnOk result (frame.new ≡ frame.old) }
 {
@@ -423,7 +423,7 @@ fn guarded<'t>(
 #[cycle(forms)]
 fn block<'t>(out: &mut Draft, frame: &mut Frame<'t>, ss: &'t Stmts) -> Result<(), AllocError>
     requires { stms_nesting (stms_from ss.now.list.items) ≤ deepest }
-    ensures code { OnOk result (Adds out.old out.new (block_code frame.old (stms_from ss.now.list.items))) }
+    ensures code { OnOk result (AddsCode out.old out.new (block_code frame.old (stms_from ss.now.list.items))) }
     ensures frame { OnOk result (frame.new ≡ frame.old) }
 {
     stmts(out, frame, ss)?;
@@ -434,7 +434,7 @@ fn block<'t>(out: &mut Draft, frame: &mut Frame<'t>, ss: &'t Stmts) -> Result<()
 #[cycle(forms)]
 pub fn stmts<'t>(out: &mut Draft, frame: &mut Frame<'t>, ss: &'t Stmts) -> Result<(), AllocError>
     requires { stms_nesting (stms_from ss.now.list.items) ≤ deepest }
-    ensures code { OnOk result (Adds out.old out.new (stms_code frame.old (stms_from ss.now.list.items))) }
+    ensures code { OnOk result (AddsCode out.old out.new (stms_code frame.old (stms_from ss.now.list.items))) }
     ensures frame { OnOk result (frame.new ≡ frame.old) }
 {
     let count = frame.len();

@@ -4,7 +4,7 @@
 ghost use Rattle.std.specs.Prelude.{◌≡◌, ◌+◌, false, IfOk, OnOk};
 ghost use Rattle.hog_tree.specs.View.{option_word_of, stms_from};
 ghost use Rattle.hog_captures.specs.Frees.{stms_frees};
-ghost use Rattle.hog_compiler.specs.Adds.{Adds};
+ghost use Rattle.hog_compiler.specs.AddsCode.{AddsCode};
 ghost use Rattle.hog_compiler.specs.Pieces.{key_count, called_on, keys_code, hidden_code, more_code, item_code, key_code, next_code, pops, for_in_code};
 
 use crate::draft::Draft;
@@ -37,7 +37,7 @@ fn above(local: u32, more: u32) -> Result<u32, AllocError>
 impl Draft {
     // A native called on a local.
     fn call_on(&mut self, native: Native, local: u32) -> Result<(), AllocError>
-        ensures { OnOk result (Adds self.old self.new (called_on native local)) }
+        ensures { OnOk result (AddsCode self.old self.new (called_on native local)) }
     {
         self.push(Op::GetLocal(local))?;
         self.push(Op::CallGlobal(native, 1))
@@ -45,7 +45,7 @@ impl Draft {
 
     // The keys of a local, where they are named.
     fn keys(&mut self, key: &Option<Named>, local: u32) -> Result<(), AllocError>
-        ensures { OnOk result (Adds self.old self.new (keys_code (option_word_of key.now) local)) }
+        ensures { OnOk result (AddsCode self.old self.new (keys_code (option_word_of key.now) local)) }
     {
         match key {
             Some(_) => self.call_on(Native::Keys, local),
@@ -56,7 +56,7 @@ impl Draft {
     // The hidden locals behind the first.
     fn hidden(&mut self, key: &Option<Named>, first: u32, values: u32) -> Result<(), AllocError>
         requires { values ≡ first + key_count (option_word_of key.now) + 1 }
-        ensures { OnOk result (Adds self.old self.new (hidden_code (option_word_of key.now) first)) }
+        ensures { OnOk result (AddsCode self.old self.new (hidden_code (option_word_of key.now) first)) }
     {
         self.keys(key, first)?;
         self.call_on(Native::Values, first)?;
@@ -66,7 +66,7 @@ impl Draft {
 
     // Whether the index is at most the count.
     fn more(&mut self, count: u32, index: u32) -> Result<(), AllocError>
-        ensures { OnOk result (Adds self.old self.new (more_code count index)) }
+        ensures { OnOk result (AddsCode self.old self.new (more_code count index)) }
     {
         self.push(Op::GetLocal(count))?;
         self.push(Op::GetLocal(index))?;
@@ -75,7 +75,7 @@ impl Draft {
 
     // The item of a list at the index.
     fn item(&mut self, list: u32, index: u32) -> Result<(), AllocError>
-        ensures { OnOk result (Adds self.old self.new (item_code list index)) }
+        ensures { OnOk result (AddsCode self.old self.new (item_code list index)) }
     {
         self.push(Op::GetLocal(list))?;
         self.push(Op::GetLocal(index))?;
@@ -84,7 +84,7 @@ impl Draft {
 
     // The key at the index, where it is named.
     fn key(&mut self, key: &Option<Named>, list: u32, index: u32) -> Result<(), AllocError>
-        ensures { OnOk result (Adds self.old self.new (key_code (option_word_of key.now) list index)) }
+        ensures { OnOk result (AddsCode self.old self.new (key_code (option_word_of key.now) list index)) }
     {
         match key {
             Some(_) => self.item(list, index),
@@ -94,7 +94,7 @@ impl Draft {
 
     // The index, one more.
     fn next(&mut self, index: u32) -> Result<(), AllocError>
-        ensures { OnOk result (Adds self.old self.new (next_code index)) }
+        ensures { OnOk result (AddsCode self.old self.new (next_code index)) }
     {
         self.push(Op::Integer(1))?;
         self.push(Op::GetLocal(index))?;
@@ -104,7 +104,7 @@ impl Draft {
 
     // The hidden locals that are always there come off.
     fn four_pops(&mut self) -> Result<(), AllocError>
-        ensures { OnOk result (Adds self.old self.new (pops 4)) }
+        ensures { OnOk result (AddsCode self.old self.new (pops 4)) }
     {
         self.push(Op::Pop)?;
         self.push(Op::Pop)?;
@@ -114,7 +114,7 @@ impl Draft {
 
     // The hidden locals come off.
     fn hidden_pops(&mut self, key: &Option<Named>) -> Result<(), AllocError>
-        ensures { OnOk result (Adds self.old self.new (pops (4 + key_count (option_word_of key.now)))) }
+        ensures { OnOk result (AddsCode self.old self.new (pops (4 + key_count (option_word_of key.now)))) }
     {
         match key {
             Some(_) => {
@@ -134,7 +134,7 @@ impl Draft {
         turn: Draft,
         body: &Stmts,
     ) -> Result<(), AllocError>
-        ensures { OnOk result (Adds self.old self.new
+        ensures { OnOk result (AddsCode self.old self.new
             (for_in_code (option_word_of key.now) name.now.word first turn (stms_frees false (stms_from body.now.list.items)))) }
     {
         let keys = above(first, key_count(key))?;

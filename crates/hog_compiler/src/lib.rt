@@ -1,7 +1,7 @@
 //! The code of a program.
 //! Stands on hog_captures, hog_scope, hog_ops, hog_tree and hog_value.
 //! Above, `compile` gives the code that specs/Code.antt says (`code_of`), form by form; specs/Pieces.antt says what the
-//! code of jumps, loops and pops is, and specs/Nesting.antt how deep functions may stand in one another.
+//! code of jumps, loops and pops is; hog_tree's specs/Nesting.antt says how deep functions may stand in one another.
 //! No machine is cited.
 #![tactic(auto)]
 

@@ -8,7 +8,7 @@ ghost use Rattle.hog_ops.specs.Valid.{allowed, lost, height};
 ghost use Rattle.hog_tree.specs.View.{words_of, exp_of};
 ghost use Rattle.hog_captures.specs.Frames.{find_local, find_up};
 ghost use Rattle.hog_compiler.specs.Code.{called_native};
-ghost use Rattle.hog_compiler.specs.Adds.{Adds};
+ghost use Rattle.hog_compiler.specs.AddsCode.{AddsCode};
 ghost use Rattle.hog_compiler.specs.Pieces.{truth_op, read_code, write_op, operator_op, is_left_first, coalesce_code, native_code, return_null, fun_code, lambda_name, if_code, if_else_code, loop_code, try_code};
 
 use crate::draft::Draft;
@@ -98,7 +98,7 @@ pub fn lambda_name(alloc: Global) -> Result<HogText, AllocError>
 /// The value of a word.
 #[tactic(auto, using(hog_ops::proofs::Join::join_assoc, hog_ops::proofs::Join::join_none))]
 pub fn read(out: &mut Draft, frame: &Frame, word: &HogText) -> Result<(), AllocError>
-    ensures { OnOk result (Adds out.old out.new
+    ensures { OnOk result (AddsCode out.old out.new
         (read_code (find_local frame.now.locals word.now) (find_up frame.now.ups word.now) word.now)) }
 {
     if let Some(index) = frame.local(word) {
@@ -128,7 +128,7 @@ pub fn write(frame: &Frame, word: &HogText) -> Op
 impl Draft {
     /// The second, where what is written gives null.
     pub fn coalesce(&mut self, second: Draft) -> Result<(), AllocError>
-        ensures { OnOk result (Adds self.old self.new (coalesce_code NoOp second)) }
+        ensures { OnOk result (AddsCode self.old self.new (coalesce_code NoOp second)) }
     {
         self.push(Op::JumpIfStackNotNull(over(second.span(), 1)))?;
         self.push(Op::Pop)?;
@@ -137,7 +137,7 @@ impl Draft {
 
     /// A body, where the condition that is written holds.
     pub fn when(&mut self, body: Draft) -> Result<(), AllocError>
-        ensures { OnOk result (Adds self.old self.new (if_code NoOp body)) }
+        ensures { OnOk result (AddsCode self.old self.new (if_code NoOp body)) }
     {
         self.push(Op::JumpIfFalse(over(body.span(), 0)))?;
         self.append(body)
@@ -145,7 +145,7 @@ impl Draft {
 
     /// A body where the condition that is written holds, else another.
     pub fn when_else(&mut self, body: Draft, other: Draft) -> Result<(), AllocError>
-        ensures { OnOk result (Adds self.old self.new (if_else_code NoOp body other)) }
+        ensures { OnOk result (AddsCode self.old self.new (if_else_code NoOp body other)) }
     {
         self.push(Op::JumpIfFalse(over(body.span(), 2)))?;
         self.append(body)?;
@@ -155,7 +155,7 @@ impl Draft {
 
     /// A body as long as a condition holds.
     pub fn repeat(&mut self, condition: Draft, body: Draft) -> Result<(), AllocError>
-        ensures { OnOk result (Adds self.old self.new (loop_code condition body)) }
+        ensures { OnOk result (AddsCode self.old self.new (loop_code condition body)) }
     {
         let ahead = over(body.span(), 2);
         let behind = back(condition.span(), body.span());
@@ -167,7 +167,7 @@ impl Draft {
 
     /// A body, and what catches its throws.
     pub fn attempt(&mut self, body: Draft, handler: Draft) -> Result<(), AllocError>
-        ensures { OnOk result (Adds self.old self.new (try_code body handler)) }
+        ensures { OnOk result (AddsCode self.old self.new (try_code body handler)) }
     {
         self.push(Op::Try(over(body.span(), 3)))?;
         self.append(body)?;
@@ -178,7 +178,7 @@ impl Draft {
 
     /// The call of a native, after its arguments.
     pub fn call_native(&mut self, native: Option<Native>, count: u32) -> Result<(), AllocError>
-        ensures { OnOk result (Adds self.old self.new (native_code native count)) }
+        ensures { OnOk result (AddsCode self.old self.new (native_code native count)) }
     {
         match native {
             Some(native) if native.takes(count) => self.push(Op::CallGlobal(native, count)),
@@ -197,7 +197,7 @@ impl Draft {
         requires operands { allowed body ≡ true }
         requires distances { lost 0 body ≡ None }
         requires nesting { height body ≤ 1000 }
-        ensures { OnOk result (Adds self.old self.new (fun_code name (words_of params.now) captures body)) }
+        ensures { OnOk result (AddsCode self.old self.new (fun_code name (words_of params.now) captures body)) }
     {
         let params = counted(params.items().len())?;
         let body = body.into_code();
@@ -211,7 +211,7 @@ impl Draft {
 
     /// The return of null.
     pub fn return_null(&mut self) -> Result<(), AllocError>
-        ensures { OnOk result (Adds self.old self.new return_null) }
+        ensures { OnOk result (AddsCode self.old self.new return_null) }
     {
         self.push(Op::PushNull)?;
         self.push(Op::Return)

@@ -6,7 +6,7 @@ ghost use Rattle.hog_ops.specs.Plain as o;
 ghost use Rattle.hog_ops.specs.View.{op_of};
 ghost use Rattle.hog_tree.specs.View.{option_word_of, stm_of, stms_from, option_exp_from, option_stm_from};
 ghost use Rattle.hog_captures.specs.Frees.{is_among, stms_frees, option_exp_frees, option_stm_frees};
-ghost use Rattle.hog_compiler.specs.Adds.{Adds};
+ghost use Rattle.hog_compiler.specs.AddsCode.{AddsCode};
 ghost use Rattle.hog_compiler.specs.Itself.{names_itself};
 ghost use Rattle.hog_compiler.specs.Pieces.{one, pop_op, key_pop};
 ghost use Rattle.hog_compiler.specs.Code.{name_pop, option_name_pop, block_pops};
@@ -64,7 +64,7 @@ fn start_is_taken(
 
 // What a statement declares comes off; these statements stand behind it.
 fn name_pop(out: &mut Draft, s: &Stmt, rest: &[Stmt]) -> Result<(), AllocError>
-    ensures { OnOk result (Adds out.old out.new (name_pop (stm_of s.now) (stms_frees false (stms_from rest.now)))) }
+    ensures { OnOk result (AddsCode out.old out.new (name_pop (stm_of s.now) (stms_frees false (stms_from rest.now)))) }
 {
     match declared_by(s) {
         Some(name) => out.push(pop(is_taken(s, &name.word, rest))),
@@ -74,7 +74,7 @@ fn name_pop(out: &mut Draft, s: &Stmt, rest: &[Stmt]) -> Result<(), AllocError>
 
 /// The locals of a block come off, the last one first.
 pub fn block_pops(out: &mut Draft, list: &[Stmt]) -> Result<(), AllocError>
-    ensures { OnOk result (Adds out.old out.new (block_pops (stms_from list.now))) }
+    ensures { OnOk result (AddsCode out.old out.new (block_pops (stms_from list.now))) }
 {
     let mut rest = list.len();
     'locals: while rest > 0 {
@@ -87,7 +87,7 @@ pub fn block_pops(out: &mut Draft, list: &[Stmt]) -> Result<(), AllocError>
 
 /// What the step of a `for` declares comes off.
 pub fn step_pop(out: &mut Draft, step: &Option<Box<Stmt>>) -> Result<(), AllocError>
-    ensures { OnOk result (Adds out.old out.new (option_name_pop (option_stm_from step.now) [])) }
+    ensures { OnOk result (AddsCode out.old out.new (option_name_pop (option_stm_from step.now) [])) }
 {
     match step {
         Some(s) => name_pop(out, s, &[]),
@@ -103,7 +103,7 @@ pub fn start_pop(
     step: &Option<Box<Stmt>>,
     body: &Stmts,
 ) -> Result<(), AllocError>
-    ensures { OnOk result (Adds out.old out.new (option_name_pop (option_stm_from start.now)
+    ensures { OnOk result (AddsCode out.old out.new (option_name_pop (option_stm_from start.now)
         (option_exp_frees false (option_exp_from condition.now) ++ (option_stm_frees false (option_stm_from step.now) ++ stms_frees false (stms_from body.now.list.items))))) }
 {
     match start {
@@ -117,7 +117,7 @@ pub fn start_pop(
 
 /// A word that is declared for a block comes off.
 pub fn word_pop(out: &mut Draft, name: &Named, block: &Stmts) -> Result<(), AllocError>
-    ensures { OnOk result (Adds out.old out.new
+    ensures { OnOk result (AddsCode out.old out.new
         (one (pop_op name.now.word (stms_frees false (stms_from block.now.list.items))))) }
 {
     out.push(pop(stmts_take(&name.word, &block.list)))
@@ -125,7 +125,7 @@ pub fn word_pop(out: &mut Draft, name: &Named, block: &Stmts) -> Result<(), Allo
 
 /// The key of a `for .. in` comes off, where it is named.
 pub fn key_pop(out: &mut Draft, key: &Option<Named>, block: &Stmts) -> Result<(), AllocError>
-    ensures { OnOk result (Adds out.old out.new
+    ensures { OnOk result (AddsCode out.old out.new
         (key_pop (option_word_of key.now) (stms_frees false (stms_from block.now.list.items)))) }
 {
     match key {

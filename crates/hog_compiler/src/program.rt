@@ -3,7 +3,7 @@
 ghost use Rattle.std.specs.Prelude.{◌≡◌, ◌≤◌, IfOk};
 ghost use Rattle.hog_tree.specs.View.{tree_of};
 ghost use Rattle.hog_compiler.specs.Code.{code_of};
-ghost use Rattle.hog_compiler.specs.Nesting.{deepest, stms_nesting};
+ghost use Rattle.hog_tree.specs.Nesting.{deepest, stms_nesting};
 
 use crate::draft::Draft;
 use crate::forms::stmts;

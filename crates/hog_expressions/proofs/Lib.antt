@@ -1,1 +1,2 @@
 pub mod ExpressionLoops
+pub mod Placing

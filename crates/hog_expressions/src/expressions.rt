@@ -1,11 +1,13 @@
 //! Reads expressions from left to right, with one token of lookahead.
 
-ghost use Rattle.std.specs.Prelude.{◌≡◌, ◌<◌, ◌≤◌, ◌+◌, ◌-◌, length, IfOk, true, false, Ok, suc};
+ghost use Rattle.std.specs.Prelude.{◌≡◌, ◌<◌, ◌≤◌, ◌+◌, ◌-◌, ◌∷◌, ◌++◌, length, IfOk, true, false, Ok, suc};
+ghost use Rattle.hog_tree.specs.Names.{exp_names, body_names};
 ghost use Rattle.hog_tree.specs.Plain.{Name, Template, Array, Dict, Neg, Not, Coalesce, Prop, PropNullish};
 ghost use Rattle.hog_tree.specs.View.{word_of, words_of, exp_of, body_of};
 ghost use Rattle.hog_reading.specs.Read.{either_way, wants, got, grown, first, step, climb, listing, exps, pairs, entry, parts, body, arrowed, arrow, short_arrow, closed, joined, binary, indexed, called};
 ghost use Rattle.hog_reading.specs.ReadStatements.{readers};
-ghost use Rattle.hog_terms.specs.View.{left};
+ghost use Rattle.hog_terms.specs.View.{left, names_from, named_from, IsPlaced};
+ghost use Rattle.hog_reading.specs.NamesOf.{list_names, entry_names, entries_names};
 ghost use Rattle.hog_terms.specs.Listed.{comma_of, shut_of};
 ghost use Rattle.hog_reading.specs.Gives.{Gives, followed, list_of, entry_of, entries_of, holed};
 ghost use Rattle.hog_terms.specs.Marks.{after_close, after_close_bracket, after_close_brace, after_arrow, after_word};
@@ -44,6 +46,7 @@ pub fn leveled<R: Readers>(
     requires deep { room ≤ R.levels again.now + 1 }
     ensures low { IfOk result (λ f. f.height ≤ room) }
     ensures gives { Gives exp_of tokens.now result ((readers room).expression level (left tokens.now at)) }
+    ensures places { IfOk result (λ f. IsPlaced (exp_names f.tree) tokens.now at f.at) }
 {
     let begun = operand(again, alloc, tokens, room - 1, level, at)?;
     operators(again, alloc, tokens, room, level, begun)
@@ -74,6 +77,7 @@ fn operand<R: Readers>(
     requires deep { room ≤ R.levels again.now }
     ensures low { IfOk result (λ f. f.height ≤ room + 1) }
     ensures gives { Gives exp_of tokens.now result (first (readers room) level (left tokens.now at)) }
+    ensures places { IfOk result (λ f. IsPlaced (exp_names f.tree) tokens.now at f.at) }
 {
     let Some((term, after)) = next(tokens, at) else {
         return Err(Stop::Syntax(at));
@@ -128,6 +132,7 @@ fn named<R: Readers>(
     requires deep { room ≤ R.levels again.now }
     ensures low { IfOk result (λ f. f.height ≤ room + 1) }
     ensures gives { Gives exp_of tokens.now result (either_way (after_arrow (left tokens.now at)) (short_arrow (readers room) level (word_of name)) (Ok (got (Name (word_of name)) 1 (left tokens.now at)))) }
+    ensures places { IfOk result (λ f. exp_names f.tree ++ named_from tokens.now f.at ≡ name ∷ named_from tokens.now at) }
 {
     match arrow(tokens, at) {
         Some(body) => short_lambda(again, alloc, tokens, room, level, name, body),
@@ -147,6 +152,7 @@ fn minus<R: Readers>(
     requires deep { room ≤ R.levels again.now }
     ensures low { IfOk result (λ f. f.height ≤ room + 1) }
     ensures gives { Gives exp_of tokens.now result (followed ((readers room).expression 9 (left tokens.now at)) (grown Neg)) }
+    ensures places { IfOk result (λ f. IsPlaced (exp_names f.tree) tokens.now at f.at) }
 {
     let e = again.expression(alloc, tokens, room, 9, at)?;
     Ok(Found {
@@ -168,6 +174,7 @@ fn negation<R: Readers>(
     requires deep { room ≤ R.levels again.now }
     ensures low { IfOk result (λ f. f.height ≤ room + 1) }
     ensures gives { Gives exp_of tokens.now result (followed ((readers room).expression 4 (left tokens.now at)) (grown Not)) }
+    ensures places { IfOk result (λ f. IsPlaced (exp_names f.tree) tokens.now at f.at) }
 {
     let e = again.expression(alloc, tokens, room, 4, at)?;
     Ok(Found {
@@ -189,6 +196,7 @@ fn parenthesized<R: Readers>(
     requires deep { room ≤ R.levels again.now }
     ensures low { IfOk result (λ f. f.height ≤ room + 1) }
     ensures gives { Gives exp_of tokens.now result (followed ((readers room).expression 1 (left tokens.now at)) closed) }
+    ensures places { IfOk result (λ f. IsPlaced (exp_names f.tree) tokens.now at f.at) }
 {
     let e = again.expression(alloc, tokens, room, 1, at)?;
     match close(tokens, e.at) {
@@ -202,7 +210,7 @@ fn parenthesized<R: Readers>(
 }
 
 /// An array after its bracket.
-#[tactic(auto, using(hog_reading::proofs::Unfold::array_of))]
+#[tactic(auto, using(hog_reading::proofs::Unfold::array_of, hog_reading::proofs::NameRows::array_names))]
 fn array<R: Readers>(
     again: &R,
     alloc: Global,
@@ -214,6 +222,7 @@ fn array<R: Readers>(
     requires deep { room ≤ R.levels again.now }
     ensures low { IfOk result (λ f. f.height ≤ room + 1) }
     ensures gives { Gives exp_of tokens.now result (followed (listing ((readers room).expression 1) true after_close_bracket (left tokens.now at)) (grown (λ es. Array (exps es)))) }
+    ensures places { IfOk result (λ f. IsPlaced (exp_names f.tree) tokens.now at f.at) }
 {
     let items = expressions(again, alloc, tokens, room, Closer::Bracket, at)?;
     Ok(Found {
@@ -224,7 +233,7 @@ fn array<R: Readers>(
 }
 
 /// A dictionary after its brace.
-#[tactic(auto, using(hog_reading::proofs::Unfold::dict_of))]
+#[tactic(auto, using(hog_reading::proofs::Unfold::dict_of, hog_reading::proofs::NameRows::dictionary_names))]
 fn dictionary<R: Readers>(
     again: &R,
     alloc: Global,
@@ -236,6 +245,7 @@ fn dictionary<R: Readers>(
     requires deep { room ≤ R.levels again.now }
     ensures low { IfOk result (λ f. f.height ≤ room + 1) }
     ensures gives { Gives exp_of tokens.now result (followed (listing (entry ((readers room).expression 1)) true after_close_brace (left tokens.now at)) (grown (λ ds. Dict (pairs ds)))) }
+    ensures places { IfOk result (λ f. IsPlaced (exp_names f.tree) tokens.now at f.at) }
 {
     let items = entries(again, alloc, tokens, room, at)?;
     Ok(Found {
@@ -260,6 +270,7 @@ fn operators<R: Readers>(
     requires low { begun.height ≤ room }
     ensures low { IfOk result (λ f. f.height ≤ room) }
     ensures gives { Gives exp_of tokens.now result (climb (readers (room - 1)) room room level (got (exp_of begun.tree) begun.height (left tokens.now begun.at))) }
+    ensures places { IfOk result (λ f. exp_names f.tree ++ named_from tokens.now f.at ≡ exp_names begun.tree ++ named_from tokens.now begun.at) }
 {
     let mut begun = begun;
     'operators: while lead_level(tokens, begun.at) >= level {
@@ -286,6 +297,7 @@ fn operator<R: Readers>(
     ensures low { IfOk result (λ f. f.height ≤ room + 1) }
     ensures taller { IfOk result (λ f. before.height < f.height) }
     ensures gives { Gives exp_of tokens.now result (step (readers room) (exp_of before.tree) before.height (left tokens.now before.at)) }
+    ensures places { IfOk result (λ f. exp_names f.tree ++ named_from tokens.now f.at ≡ exp_names before.tree ++ named_from tokens.now before.at) }
 {
     let at = before.at;
     if let Some((op, after)) = infix_at(tokens, at) {
@@ -320,6 +332,7 @@ fn infix<R: Readers>(
     ensures low { IfOk result (λ f. f.height ≤ room + 1) }
     ensures taller { IfOk result (λ f. before.height < f.height) }
     ensures gives { Gives exp_of tokens.now result (binary (readers room) (exp_of before.tree) before.height (op, left tokens.now at)) }
+    ensures places { IfOk result (λ f. exp_names f.tree ++ named_from tokens.now f.at ≡ exp_names before.tree ++ named_from tokens.now at) }
 {
     let right = again.expression(alloc, tokens, room, level_of(op) + 1, at)?;
     let tree = Expr::Binary(
@@ -349,6 +362,7 @@ fn coalesce<R: Readers>(
     ensures low { IfOk result (λ f. f.height ≤ room + 1) }
     ensures taller { IfOk result (λ f. before.height < f.height) }
     ensures gives { Gives exp_of tokens.now result (followed ((readers room).expression 6 (left tokens.now at)) (joined Coalesce (exp_of before.tree) before.height)) }
+    ensures places { IfOk result (λ f. exp_names f.tree ++ named_from tokens.now f.at ≡ exp_names before.tree ++ named_from tokens.now at) }
 {
     let right = again.expression(alloc, tokens, room, 6, at)?;
     let tree = Expr::Coalesce(Box::new(alloc, before.tree)?, Box::new(alloc, right.tree)?);
@@ -369,6 +383,7 @@ fn member(
     requires { before.height < 100 }
     ensures higher { IfOk result (λ f. f.height ≡ before.height + 1) }
     ensures gives { Gives exp_of tokens.now result (wants (after_word (left tokens.now at)) (λ p. Ok (got (Prop (exp_of before.tree) p.0) (suc before.height) p.1))) }
+    ensures places { IfOk result (λ f. exp_names f.tree ++ named_from tokens.now f.at ≡ exp_names before.tree ++ names_from true tokens.now at) }
 {
     let Some((name, after)) = property(alloc, tokens, at)? else {
         return Err(Stop::Syntax(at));
@@ -390,6 +405,7 @@ fn nullish_member(
     requires { before.height < 100 }
     ensures higher { IfOk result (λ f. f.height ≡ before.height + 1) }
     ensures gives { Gives exp_of tokens.now result (wants (after_word (left tokens.now at)) (λ p. Ok (got (PropNullish (exp_of before.tree) p.0) (suc before.height) p.1))) }
+    ensures places { IfOk result (λ f. exp_names f.tree ++ named_from tokens.now f.at ≡ exp_names before.tree ++ names_from true tokens.now at) }
 {
     let Some((name, after)) = property(alloc, tokens, at)? else {
         return Err(Stop::Syntax(at));
@@ -416,6 +432,7 @@ fn index<R: Readers>(
     ensures low { IfOk result (λ f. f.height ≤ room + 1) }
     ensures taller { IfOk result (λ f. before.height < f.height) }
     ensures gives { Gives exp_of tokens.now result (followed ((readers room).expression 1 (left tokens.now at)) (indexed (exp_of before.tree) before.height)) }
+    ensures places { IfOk result (λ f. exp_names f.tree ++ named_from tokens.now f.at ≡ exp_names before.tree ++ named_from tokens.now at) }
 {
     let inner = again.expression(alloc, tokens, room, 1, at)?;
     let Some(at) = close_bracket(tokens, inner.at) else {
@@ -445,6 +462,7 @@ fn call<R: Readers>(
     ensures low { IfOk result (λ f. f.height ≤ room + 1) }
     ensures taller { IfOk result (λ f. before.height < f.height) }
     ensures gives { Gives exp_of tokens.now result (followed (listing ((readers room).expression 1) false after_close (left tokens.now at)) (called (exp_of before.tree) before.height)) }
+    ensures places { IfOk result (λ f. exp_names f.tree ++ named_from tokens.now f.at ≡ exp_names before.tree ++ named_from tokens.now at) }
 {
     let arguments = expressions(again, alloc, tokens, room, Closer::Parenthesis, at)?;
     Ok(Found {
@@ -467,6 +485,7 @@ fn expressions<R: Readers>(
     requires deep { room ≤ R.levels again.now }
     ensures low { IfOk result (λ f. f.height ≤ room) }
     ensures gives { Gives list_of tokens.now result (listing ((readers room).expression 1) (comma_of closer) (shut_of closer) (left tokens.now at)) }
+    ensures places { IfOk result (λ f. IsPlaced (list_names f.tree) tokens.now at f.at) }
 {
     let mut list = Vec::new(alloc);
     if let Some(at) = closing(tokens, closer, at) {
@@ -509,6 +528,7 @@ fn item<R: Readers>(
     requires deep { room ≤ R.levels again.now }
     ensures low { IfOk result (λ f. f.height ≤ room) }
     ensures gives { Gives entry_of tokens.now result (entry ((readers room).expression 1) (left tokens.now at)) }
+    ensures places { IfOk result (λ f. IsPlaced (entry_names f.tree) tokens.now at f.at) }
 {
     let key = again.expression(alloc, tokens, room, 1, at)?;
     let Some(after) = colon(tokens, key.at) else {
@@ -537,6 +557,7 @@ fn entries<R: Readers>(
     requires deep { room ≤ R.levels again.now }
     ensures low { IfOk result (λ f. f.height ≤ room) }
     ensures gives { Gives entries_of tokens.now result (listing (entry ((readers room).expression 1)) true after_close_brace (left tokens.now at)) }
+    ensures places { IfOk result (λ f. IsPlaced (entries_names f.tree) tokens.now at f.at) }
 {
     let mut list = Vec::new(alloc);
     if let Some(at) = closing(tokens, Closer::Brace, at) {
@@ -580,6 +601,7 @@ fn template<R: Readers>(
     requires deep { room ≤ R.levels again.now }
     ensures low { IfOk result (λ f. f.height ≤ room + 1) }
     ensures gives { Gives exp_of tokens.now result (followed (parts ((readers room).expression 1) (length (left tokens.now at)) (left tokens.now at)) (grown Template)) }
+    ensures places { IfOk result (λ f. IsPlaced (exp_names f.tree) tokens.now at f.at) }
 {
     let mut list = Vec::new(alloc);
     let mut height = 0;
@@ -621,6 +643,7 @@ fn in_hole<R: Readers>(
     requires deep { room ≤ R.levels again.now }
     ensures low { IfOk result (λ f. f.height ≤ room) }
     ensures gives { Gives exp_of tokens.now result (followed ((readers room).expression 1 (left tokens.now at)) holed) }
+    ensures places { IfOk result (λ f. IsPlaced (exp_names f.tree) tokens.now at f.at) }
 {
     let e = again.expression(alloc, tokens, room, 1, at)?;
     match hole(tokens, e.at) {
@@ -634,7 +657,7 @@ fn in_hole<R: Readers>(
 }
 
 /// What stands after an arrow.
-#[tactic(auto, using(hog_tree::proofs::Rows::body_is), unfolding(hog_reading::specs::Read::body))]
+#[tactic(auto, using(hog_tree::proofs::Rows::body_is, hog_reading::proofs::NameRows::block_body_names), unfolding(hog_reading::specs::Read::body))]
 fn arrow_body<R: Readers>(
     again: &R,
     alloc: Global,
@@ -646,6 +669,7 @@ fn arrow_body<R: Readers>(
     requires deep { room ≤ R.levels again.now }
     ensures low { IfOk result (λ f. f.height ≤ room) }
     ensures gives { Gives body_of tokens.now result (body (readers room) (left tokens.now at)) }
+    ensures places { IfOk result (λ f. IsPlaced (body_names f.tree) tokens.now at f.at) }
 {
     if let Some(after) = open_brace(tokens, at) {
         let block = braced(again, alloc, tokens, room, after)?;
@@ -680,6 +704,7 @@ fn lambda<R: Readers>(
     requires low { parameters.height ≤ room }
     ensures low { IfOk result (λ f. f.height ≤ room + 1) }
     ensures gives { Gives exp_of tokens.now result (followed (body (readers room) (left tokens.now at)) (arrowed (got (words_of parameters.tree) parameters.height (left tokens.now parameters.at)))) }
+    ensures places { IfOk result (λ f. exp_names f.tree ++ named_from tokens.now f.at ≡ parameters.tree ++ named_from tokens.now at) }
 {
     let Found {
         tree: names,
@@ -709,6 +734,7 @@ fn short_lambda<R: Readers>(
     requires deep { room ≤ R.levels again.now }
     ensures low { IfOk result (λ f. f.height ≤ room + 1) }
     ensures gives { Gives exp_of tokens.now result (short_arrow (readers room) level (word_of name) (left tokens.now at)) }
+    ensures places { IfOk result (λ f. exp_names f.tree ++ named_from tokens.now f.at ≡ name ∷ named_from tokens.now at) }
 {
     if 1 < level {
         return Err(Stop::Syntax(at.saturating_sub(1)));
@@ -737,6 +763,7 @@ fn long_lambda<R: Readers>(
     requires deep { room ≤ R.levels again.now }
     ensures low { IfOk result (λ f. f.height ≤ room + 1) }
     ensures gives { Gives exp_of tokens.now result (arrow (readers room) level (left tokens.now at)) }
+    ensures places { IfOk result (λ f. IsPlaced (exp_names f.tree) tokens.now at f.at) }
 {
     if 1 < level {
         return Err(Stop::Syntax(arrow_fault(tokens, at)));

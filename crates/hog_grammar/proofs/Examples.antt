@@ -17,6 +17,7 @@ use Rattle.hog_grammar.specs.Pieces as p
 use Rattle.hog_grammar.specs.Pieces.{IsTokensOf, Code, Template}
 use Rattle.hog_grammar.specs.Terminal as w
 use Rattle.hog_grammar.specs.Terminal.{terminals, Terminal}
+use Rattle.hog_grammar.specs.Names.{name_at, names_in}
 use Rattle.hog_grammar.specs.Forms.{At}
 use Rattle.hog_grammar.specs.Spelling.{Spells, Bare}
 
@@ -168,3 +169,16 @@ bad_hole_stands = record {
   holds = (refl, refl);
   place = refl;
 }
+
+-- `let x := y.z(x)` has the names x, y and x
+
+abbrev property : List ℕ
+property = codes "let x := y.z(x)"
+
+abbrev property_tokens : List Token
+property_tokens = token k.Word 0 3 ∷ token k.Word 4 5 ∷ token k.Mark 6 8 ∷ token k.Word 9 10 ∷ token k.Mark 10 11 ∷ token k.Word 11 12
+    ∷ token k.Mark 12 13 ∷ token k.Word 13 14 ∷ token k.Mark 14 15 ∷ []
+
+property_names : names_in property property_tokens ≡ name_at 4 (codes "x") ∷ name_at 9 (codes "y") ∷ name_at 13 (codes "x") ∷ []
+unfolding w.word w.mark
+property_names = refl

@@ -5,3 +5,4 @@ pub mod Terminal
 pub mod Forms
 pub mod Spelling
 pub mod Laws
+pub mod Names

@@ -96,9 +96,6 @@ module _ (call : Naming) where
   pub again_events : {σ σ' τ' : Env} {i j : ℕ} {es es' fs fs' : List Event} {is : List Item} → es ≡ fs → es' ≡ fs' → Again σ σ' i τ' j es es' is → Again σ σ' i τ' j fs fs' is
   again_events {σ} {σ'} {τ'} {i} {j} {es} {es'} {fs} {fs'} {is} e e' a = subst (λ z. Again σ σ' i τ' j z fs' is) e (subst (λ z. Again σ σ' i τ' j es z is) e' a)
 
-  pub again_sight : {σ σ' τ' υ' : Env} {i j : ℕ} {es es' : List Event} {is : List Item} → τ' ≡ υ' → Again σ σ' i τ' j es es' is → Again σ σ' i υ' j es es' is
-  again_sight {σ} {σ'} {τ'} {υ'} {i} {j} {es} {es'} {is} e a = subst (λ z. Again σ σ' i z j es es' is) e a
-
   pub none_again : {σ σ' τ' : Env} {i : ℕ} {es es' : List Event} {is : List Item} → Again σ σ' i τ' i es es' is → Again σ σ' i τ' (i + 0) es es' is
   none_again {i = i} a = again_count (sym (add-zero i)) a
 

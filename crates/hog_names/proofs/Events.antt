@@ -4,21 +4,20 @@ use Rattle.hog_tree.specs.Plain.{Word, Exp, Exps, Parts, Pairs, Body, Stm, Stms,
 use Rattle.hog_captures.specs.Frees.{without, without_all, without_name, name_by, option_name_by, exp_frees, exps_frees, parts_frees, pairs_frees, body_frees, stm_frees, stms_frees, option_exp_frees, option_stm_frees, option_stms_frees}
 use Rattle.hog_scope.specs.declared.item.Item.{Item}
 use Rattle.hog_scope.specs.declared.item.Item.TheVariants as item
-use Rattle.hog_scope.specs.Words.{Event, Declares, Binds, declares, binds, count_of, callee, target, exp_words, exps_words, parts_words, pairs_words, body_words, stm_words, stms_words, option_exp_words, option_stm_words, option_stms_words}
+use Rattle.hog_scope.specs.Words.{Event, Declares, Binds, declares, binds, count_of, callee, target, exp_words, exps_words, parts_words, pairs_words, body_words, stm_words, stms_words, option_exp_words, option_stm_words, option_step_words, option_stms_words}
 use Rattle.hog_scope.specs.Literals.{texts_of, in_byte_order}
 use Rattle.hog_scope.specs.Scopes.{Known, Fault, start, run, items_at, items_of}
 use Rattle.hog_scope.proofs.Closed.{KeepsScopes, exp_closed, option_exp_closed}
 use Rattle.hog_meaning.specs.World.{Env}
 use Rattle.hog_meaning.specs.Program.{texts_by, texts_in}
-use Rattle.hog_bridge.specs.Steady.{ExpSteady, ExpsSteady, PartsSteady, PairsSteady, BodySteady, StmSteady, StmsSteady, OptionExpSteady, OptionStmSteady, OptionStmsSteady}
 use Rattle.hog_names.specs.Anew.{Naming}
 use Rattle.hog_names.specs.Numbers.{option_count, exp_count, exps_count, parts_count, pairs_count, body_count, stm_count, stms_count, option_exp_count, option_stm_count, option_stms_count, with_number, with_numbers, option_items, callee_items, exp_items, exps_items, parts_items, pairs_items, body_items, stm_items, stms_items, option_exp_items, option_stm_items, option_stms_items}
-use Rattle.hog_names.proofs.Found.{Part, then_part, sight_so, spells, let_part, let_both, scope_part, declared_part, params_part}
-use Rattle.hog_names.proofs.Items.{callee_part, target_part, exp_part, stm_part, stms_part, option_exp_part, option_stm_part}
+use Rattle.hog_names.proofs.Found.{Part, then_part, spells, let_part, let_both, scope_part, declared_part, params_part}
+use Rattle.hog_names.proofs.Items.{callee_part, target_part, exp_part, stm_part, stms_part, option_exp_part, option_stm_part, option_step_part}
 use Rattle.hog_names.proofs.Within.{names_in, option_in, exp_in, exps_in, parts_in, pairs_in, body_in, stm_in, stms_in, option_exp_in, option_stm_in, option_stms_in}
 use Rattle.hog_names.proofs.Sights.{AreApart, Here, Alike, here_left, here_right, here_later, here_named, here_option, here_params, alike_none, alike_named}
 use Rattle.hog_names.proofs.Runs.{looked, stm_named_within, named_within}
-use Rattle.hog_names.proofs.Again.{Again, then_again, nothing_again, again_count, again_items, again_events, again_sight, none_again, reads_again, assigns_again, calls_again, spells_again, scope_again, let_again, both_again, declared_again, params_again}
+use Rattle.hog_names.proofs.Again.{Again, then_again, nothing_again, again_count, again_items, again_events, none_again, reads_again, assigns_again, calls_again, spells_again, scope_again, let_again, both_again, declared_again, params_again}
 
 module _ (call : Naming) (far : AreApart call) where
   -- the new names are in sight where the old ones are
@@ -130,61 +129,61 @@ module _ (call : Naming) (far : AreApart call) where
           (then_again call (let_both u v kept p) (both_again call far u v kept' a) b)
 
   mutual
-    exp_again : (σ σ' : Env) (i : ℕ) (x : Exp) → ExpSteady x → Here call σ i (exp_frees true x) → Beside σ σ' → Again call σ σ' i σ' (i + exp_count x) (exp_words x) (exp_words (exp_in call σ i x)) (exp_items σ i x)
-    exp_again σ σ' i (Int n) s h b = none_again call (nothing_again call)
-    exp_again σ σ' i (Truth t) s h b = none_again call (nothing_again call)
-    exp_again σ σ' i Null s h b = none_again call (nothing_again call)
-    exp_again σ σ' i (Text t) s h b = none_again call (spells_again call t)
-    exp_again σ σ' i (Template ps) s h b = parts_again σ σ' i ps s h b
-    exp_again σ σ' i (Name w) s h b = none_again call (reads_again call (looked call w h b))
-    exp_again σ σ' i (Array xs) s h b = exps_again σ σ' i xs s h b
-    exp_again σ σ' i (Dict ds) s h b = pairs_again σ σ' i ds s h b
-    exp_again σ σ' i (Neg x) s h b = exp_again σ σ' i x s h b
-    exp_again σ σ' i (Not x) s h b = exp_again σ σ' i x s h b
-    exp_again σ σ' i (Binary op x y) s h b =
+    exp_again : (σ σ' : Env) (i : ℕ) (x : Exp) → Here call σ i (exp_frees true x) → Beside σ σ' → Again call σ σ' i σ' (i + exp_count x) (exp_words x) (exp_words (exp_in call σ i x)) (exp_items σ i x)
+    exp_again σ σ' i (Int n) h b = none_again call (nothing_again call)
+    exp_again σ σ' i (Truth t) h b = none_again call (nothing_again call)
+    exp_again σ σ' i Null h b = none_again call (nothing_again call)
+    exp_again σ σ' i (Text t) h b = none_again call (spells_again call t)
+    exp_again σ σ' i (Template ps) h b = parts_again σ σ' i ps h b
+    exp_again σ σ' i (Name w) h b = none_again call (reads_again call (looked call w h b))
+    exp_again σ σ' i (Array xs) h b = exps_again σ σ' i xs h b
+    exp_again σ σ' i (Dict ds) h b = pairs_again σ σ' i ds h b
+    exp_again σ σ' i (Neg x) h b = exp_again σ σ' i x h b
+    exp_again σ σ' i (Not x) h b = exp_again σ σ' i x h b
+    exp_again σ σ' i (Binary op x y) h b =
         let hx = here_left call (exp_frees true x) (exp_frees true y) h in
         let hy = here_right call (i + exp_count x) (exp_frees true x) (exp_frees true y) (omega arith) h in
-        again_count call (omega arith) (then_again call (exp_part σ i x s.0) (exp_again σ σ' i x s.0 hx b) (exp_again σ σ' (i + exp_count x) y s.1 hy b))
-    exp_again σ σ' i (Coalesce x y) s h b =
+        again_count call (omega arith) (then_again call (exp_part σ i x) (exp_again σ σ' i x hx b) (exp_again σ σ' (i + exp_count x) y hy b))
+    exp_again σ σ' i (Coalesce x y) h b =
         let hx = here_left call (exp_frees true x) (exp_frees true y) h in
         let hy = here_right call (i + exp_count x) (exp_frees true x) (exp_frees true y) (omega arith) h in
-        again_count call (omega arith) (then_again call (exp_part σ i x s.0) (exp_again σ σ' i x s.0 hx b) (exp_again σ σ' (i + exp_count x) y s.1 hy b))
-    exp_again σ σ' i (Prop x w) s h b = again_items call (append-nil (exp_items σ i x)) (then_again call (exp_part σ i x s) (exp_again σ σ' i x s h b) (spells_again call w))
-    exp_again σ σ' i (PropNullish x w) s h b = again_items call (append-nil (exp_items σ i x)) (then_again call (exp_part σ i x s) (exp_again σ σ' i x s h b) (spells_again call w))
-    exp_again σ σ' i (Index x y) s h b =
+        again_count call (omega arith) (then_again call (exp_part σ i x) (exp_again σ σ' i x hx b) (exp_again σ σ' (i + exp_count x) y hy b))
+    exp_again σ σ' i (Prop x w) h b = again_items call (append-nil (exp_items σ i x)) (then_again call (exp_part σ i x) (exp_again σ σ' i x h b) (spells_again call w))
+    exp_again σ σ' i (PropNullish x w) h b = again_items call (append-nil (exp_items σ i x)) (then_again call (exp_part σ i x) (exp_again σ σ' i x h b) (spells_again call w))
+    exp_again σ σ' i (Index x y) h b =
         let hx = here_left call (exp_frees true x) (exp_frees true y) h in
         let hy = here_right call (i + exp_count x) (exp_frees true x) (exp_frees true y) (omega arith) h in
-        again_count call (omega arith) (then_again call (exp_part σ i x s.0) (exp_again σ σ' i x s.0 hx b) (exp_again σ σ' (i + exp_count x) y s.1 hy b))
-    exp_again σ σ' i (Call f xs) s h b =
+        again_count call (omega arith) (then_again call (exp_part σ i x) (exp_again σ σ' i x hx b) (exp_again σ σ' (i + exp_count x) y hy b))
+    exp_again σ σ' i (Call f xs) h b =
         let n = i + exp_count f in
         let hf = here_left call (exp_frees true f) (exps_frees true xs) h in
         let hs = here_right call n (exp_frees true f) (exps_frees true xs) (omega arith) h in
         again_events call refl (ap (λ z. callee (exp_in call σ i f) z (exp_words (exp_in call σ i f)) ++ exps_words (exps_in call σ n xs)) (sym (count_same σ n xs)))
         (again_count call (omega arith)
-        (then_again call (callee_part f (count_of xs) refl (exp_part σ i f s.0)) (callee_again f (count_of xs) refl hf b (exp_again σ σ' i f s.0 hf b)) (exps_again σ σ' n xs s.1 hs b)))
-    exp_again σ σ' i (Lambda ps c) s h b =
+        (then_again call (callee_part f (count_of xs) refl (exp_part σ i f)) (callee_again f (count_of xs) refl hf b (exp_again σ σ' i f hf b)) (exps_again σ σ' n xs hs b)))
+    exp_again σ σ' i (Lambda ps c) h b =
         again_count call (omega arith)
         (scope_again call (then_again call (params_part ps) (params_again call far ps)
-        (body_again (with_numbers ps i σ) (with_numbers (names_in call i ps) i σ') (i + length ps) c s (here_params call ps (body_frees c) h) (beside_params ps (body_frees c) h b))))
+        (body_again (with_numbers ps i σ) (with_numbers (names_in call i ps) i σ') (i + length ps) c (here_params call ps (body_frees c) h) (beside_params ps (body_frees c) h b))))
 
-    exps_again : (σ σ' : Env) (i : ℕ) (xs : Exps) → ExpsSteady xs → Here call σ i (exps_frees true xs) → Beside σ σ' → Again call σ σ' i σ' (i + exps_count xs) (exps_words xs) (exps_words (exps_in call σ i xs)) (exps_items σ i xs)
-    exps_again σ σ' i NoExp s h b = none_again call (nothing_again call)
-    exps_again σ σ' i (MoreExp x xs) s h b =
+    exps_again : (σ σ' : Env) (i : ℕ) (xs : Exps) → Here call σ i (exps_frees true xs) → Beside σ σ' → Again call σ σ' i σ' (i + exps_count xs) (exps_words xs) (exps_words (exps_in call σ i xs)) (exps_items σ i xs)
+    exps_again σ σ' i NoExp h b = none_again call (nothing_again call)
+    exps_again σ σ' i (MoreExp x xs) h b =
         let hx = here_left call (exp_frees true x) (exps_frees true xs) h in
         let hs = here_right call (i + exp_count x) (exp_frees true x) (exps_frees true xs) (omega arith) h in
-        again_count call (omega arith) (then_again call (exp_part σ i x s.0) (exp_again σ σ' i x s.0 hx b) (exps_again σ σ' (i + exp_count x) xs s.1 hs b))
+        again_count call (omega arith) (then_again call (exp_part σ i x) (exp_again σ σ' i x hx b) (exps_again σ σ' (i + exp_count x) xs hs b))
 
-    parts_again : (σ σ' : Env) (i : ℕ) (ps : Parts) → PartsSteady ps → Here call σ i (parts_frees true ps) → Beside σ σ' → Again call σ σ' i σ' (i + parts_count ps) (parts_words ps) (parts_words (parts_in call σ i ps)) (parts_items σ i ps)
-    parts_again σ σ' i NoPart s h b = none_again call (nothing_again call)
-    parts_again σ σ' i (MoreText t ps) s h b = then_again call (spells t) (spells_again call t) (parts_again σ σ' i ps s h b)
-    parts_again σ σ' i (MoreHole x ps) s h b =
+    parts_again : (σ σ' : Env) (i : ℕ) (ps : Parts) → Here call σ i (parts_frees true ps) → Beside σ σ' → Again call σ σ' i σ' (i + parts_count ps) (parts_words ps) (parts_words (parts_in call σ i ps)) (parts_items σ i ps)
+    parts_again σ σ' i NoPart h b = none_again call (nothing_again call)
+    parts_again σ σ' i (MoreText t ps) h b = then_again call (spells t) (spells_again call t) (parts_again σ σ' i ps h b)
+    parts_again σ σ' i (MoreHole x ps) h b =
         let hx = here_left call (exp_frees true x) (parts_frees true ps) h in
         let hs = here_right call (i + exp_count x) (exp_frees true x) (parts_frees true ps) (omega arith) h in
-        again_count call (omega arith) (then_again call (exp_part σ i x s.0) (exp_again σ σ' i x s.0 hx b) (parts_again σ σ' (i + exp_count x) ps s.1 hs b))
+        again_count call (omega arith) (then_again call (exp_part σ i x) (exp_again σ σ' i x hx b) (parts_again σ σ' (i + exp_count x) ps hs b))
 
-    pairs_again : (σ σ' : Env) (i : ℕ) (ds : Pairs) → PairsSteady ds → Here call σ i (pairs_frees true ds) → Beside σ σ' → Again call σ σ' i σ' (i + pairs_count ds) (pairs_words ds) (pairs_words (pairs_in call σ i ds)) (pairs_items σ i ds)
-    pairs_again σ σ' i NoPair s h b = none_again call (nothing_again call)
-    pairs_again σ σ' i (MorePair k x ds) s h b =
+    pairs_again : (σ σ' : Env) (i : ℕ) (ds : Pairs) → Here call σ i (pairs_frees true ds) → Beside σ σ' → Again call σ σ' i σ' (i + pairs_count ds) (pairs_words ds) (pairs_words (pairs_in call σ i ds)) (pairs_items σ i ds)
+    pairs_again σ σ' i NoPair h b = none_again call (nothing_again call)
+    pairs_again σ σ' i (MorePair k x ds) h b =
         let n1 = i + exp_count k in
         let n2 = n1 + exp_count x in
         let hk = here_left call (exp_frees true k) (exp_frees true x ++ pairs_frees true ds) h in
@@ -192,25 +191,25 @@ module _ (call : Naming) (far : AreApart call) where
         let hx = here_left call (exp_frees true x) (pairs_frees true ds) hm in
         let hs = here_right call n2 (exp_frees true x) (pairs_frees true ds) (omega arith) hm in
         again_count call (omega arith)
-        (then_again call (then_part (exp_part σ i k s.0) (exp_part σ n1 x s.1)) (then_again call (exp_part σ i k s.0) (exp_again σ σ' i k s.0 hk b) (exp_again σ σ' n1 x s.1 hx b)) (pairs_again σ σ' n2 ds s.2 hs b))
+        (then_again call (then_part (exp_part σ i k) (exp_part σ n1 x)) (then_again call (exp_part σ i k) (exp_again σ σ' i k hk b) (exp_again σ σ' n1 x hx b)) (pairs_again σ σ' n2 ds hs b))
 
-    body_again : (σ σ' : Env) (i : ℕ) (c : Body) → BodySteady c → Here call σ i (body_frees c) → Beside σ σ' → Again call σ σ' i (body_after σ σ' i c) (i + body_count c) (body_words c) (body_words (body_in call σ i c)) (body_items σ i c)
-    body_again σ σ' i (OneExp x) s h b = exp_again σ σ' i x s h b
-    body_again σ σ' i (ManyStms ss) s h b = stms_again σ σ' i ss s h b
+    body_again : (σ σ' : Env) (i : ℕ) (c : Body) → Here call σ i (body_frees c) → Beside σ σ' → Again call σ σ' i (body_after σ σ' i c) (i + body_count c) (body_words c) (body_words (body_in call σ i c)) (body_items σ i c)
+    body_again σ σ' i (OneExp x) h b = exp_again σ σ' i x h b
+    body_again σ σ' i (ManyStms ss) h b = stms_again σ σ' i ss h b
 
-    stm_again : (σ σ' : Env) (i : ℕ) (x : Stm) → StmSteady x → Here call σ i (stm_frees true x) → Beside σ σ'
+    stm_again : (σ σ' : Env) (i : ℕ) (x : Stm) → Here call σ i (stm_frees true x) → Beside σ σ'
         → Again call σ σ' i (with_number (option_in call i (name_by x)) i σ') (i + stm_count x) (stm_words x) (stm_words (stm_in call σ i x)) (stm_items σ i x)
-    stm_again σ σ' i (Let w x) s h b =
-        again_count call (omega arith) (let_again call far w (option_exp_closed (option_exp_in call σ (suc i) x)) (option_exp_again σ σ' (suc i) x s (here_later call (suc i) (omega arith) h) b))
-    stm_again σ σ' i (Assign x y) s h b =
+    stm_again σ σ' i (Let w x) h b =
+        again_count call (omega arith) (let_again call far w (option_exp_closed (option_exp_in call σ (suc i) x)) (option_exp_again σ σ' (suc i) x (here_later call (suc i) (omega arith) h) b))
+    stm_again σ σ' i (Assign x y) h b =
         let hx = here_left call (exp_frees true x) (exp_frees true y) h in
         let hy = here_right call (i + exp_count x) (exp_frees true x) (exp_frees true y) (omega arith) h in
         again_count call (omega arith)
-        (then_again call (target_part x refl (exp_part σ i x s.0)) (target_again x refl hx b (exp_again σ σ' i x s.0 hx b)) (exp_again σ σ' (i + exp_count x) y s.1 hy b))
-    stm_again σ σ' i (Do x) s h b = exp_again σ σ' i x s h b
-    stm_again σ σ' i (Return x) s h b = option_exp_again σ σ' i x s h b
-    stm_again σ σ' i (Throw x) s h b = exp_again σ σ' i x s h b
-    stm_again σ σ' i (If c t o) s h b =
+        (then_again call (target_part x refl (exp_part σ i x)) (target_again x refl hx b (exp_again σ σ' i x hx b)) (exp_again σ σ' (i + exp_count x) y hy b))
+    stm_again σ σ' i (Do x) h b = exp_again σ σ' i x h b
+    stm_again σ σ' i (Return x) h b = option_exp_again σ σ' i x h b
+    stm_again σ σ' i (Throw x) h b = exp_again σ σ' i x h b
+    stm_again σ σ' i (If c t o) h b =
         let n1 = i + exp_count c in
         let n2 = n1 + stms_count t in
         let hc = here_left call (exp_frees true c) (stms_frees true t ++ option_stms_frees true o) h in
@@ -218,12 +217,12 @@ module _ (call : Naming) (far : AreApart call) where
         let ht = here_left call (stms_frees true t) (option_stms_frees true o) hm in
         let ho = here_right call n2 (stms_frees true t) (option_stms_frees true o) (omega arith) hm in
         again_count call (omega arith)
-        (then_again call (then_part (exp_part σ i c s.0) (scope_part (stms_part σ n1 t s.1))) (then_again call (exp_part σ i c s.0) (exp_again σ σ' i c s.0 hc b) (scope_again call (stms_again σ σ' n1 t s.1 ht b))) (option_stms_again σ σ' n2 o s.2 ho b))
-    stm_again σ σ' i (While c t) s h b =
+        (then_again call (then_part (exp_part σ i c) (scope_part (stms_part σ n1 t))) (then_again call (exp_part σ i c) (exp_again σ σ' i c hc b) (scope_again call (stms_again σ σ' n1 t ht b))) (option_stms_again σ σ' n2 o ho b))
+    stm_again σ σ' i (While c t) h b =
         let hc = here_left call (exp_frees true c) (stms_frees true t) h in
         let ht = here_right call (i + exp_count c) (exp_frees true c) (stms_frees true t) (omega arith) h in
-        again_count call (omega arith) (then_again call (exp_part σ i c s.0) (exp_again σ σ' i c s.0 hc b) (scope_again call (stms_again σ σ' (i + exp_count c) t s.1 ht b)))
-    stm_again σ σ' i (For a c r t) s h b =
+        again_count call (omega arith) (then_again call (exp_part σ i c) (exp_again σ σ' i c hc b) (scope_again call (stms_again σ σ' (i + exp_count c) t ht b)))
+    stm_again σ σ' i (For a c r t) h b =
         let τ = with_number (option_name_by a) i σ in
         let τ' = with_number (option_in call i (option_name_by a)) i σ' in
         let i1 = i + option_stm_count a in
@@ -238,15 +237,13 @@ module _ (call : Naming) (far : AreApart call) where
         let hm = here_right call i2 (option_exp_frees true c) (option_stm_frees true r ++ stms_frees true t) (omega arith) hi in
         let hr = here_left call (option_stm_frees true r) (stms_frees true t) hm in
         let ht = here_right call i3 (option_stm_frees true r) (stms_frees true t) (omega arith) hm in
-        let step : Part τ i2 τ i3 (option_stm_words r) (option_stm_items τ i2 r) = sight_so (ap (λ o. with_number o i2 τ) s.0) (option_stm_part τ i2 r s.3) in
-        let step_again : Again call τ τ' i2 τ' i3 (option_stm_words r) (option_stm_words (option_stm_in call τ i2 r)) (option_stm_items τ i2 r) = again_sight call (ap (λ o. with_number (option_in call i2 o) i2 τ') s.0) (option_stm_again τ τ' i2 r s.3 hr bi) in
-        let first = option_stm_part σ i a s.1 in
-        let second = option_exp_part τ i1 c s.2 in
+        let first = option_stm_part σ i a in
+        let second = option_exp_part τ i1 c in
         again_count call (omega arith)
-        (scope_again call (then_again call (then_part (then_part first second) step)
-        (then_again call (then_part first second) (then_again call first (option_stm_again σ σ' i a s.1 ha b) (option_exp_again τ τ' i1 c s.2 hc bi)) step_again)
-        (scope_again call (stms_again τ τ' i3 t s.4 ht bi))))
-    stm_again σ σ' i (ForIn k v x t) s h b =
+        (scope_again call (then_again call (then_part (then_part first second) (option_step_part τ i2 r))
+        (then_again call (then_part first second) (then_again call first (option_stm_again σ σ' i a ha b) (option_exp_again τ τ' i1 c hc bi)) (option_step_again τ τ' i2 r hr bi))
+        (scope_again call (stms_again τ τ' i3 t ht bi))))
+    stm_again σ σ' i (ForIn k v x t) h b =
         let n = i + option_count k in
         let m = suc n + exp_count x in
         let inner = without_name k (without v (stms_frees true t)) in
@@ -256,62 +253,68 @@ module _ (call : Naming) (far : AreApart call) where
         let ht = here_later call m (omega arith) (here_named call v (stms_frees true t) hk) in
         let bt = alike_named call far hk (beside_option k hi b) v n in
         again_count call (omega arith)
-        (scope_again call (names_again k v n refl (exp_closed x) (exp_closed (exp_in call σ (suc n) x)) (exp_part σ (suc n) x s.0)
-        (exp_again σ σ' (suc n) x s.0 (here_later call (suc n) (omega arith) hx) b)
-        (scope_again call (stms_again ((v, n) ∷ with_number k i σ) ((call n, n) ∷ with_number (option_in call i k) i σ') m t s.1 ht bt))))
-    stm_again σ σ' i (Fun w ps t) s h b =
+        (scope_again call (names_again k v n refl (exp_closed x) (exp_closed (exp_in call σ (suc n) x)) (exp_part σ (suc n) x)
+        (exp_again σ σ' (suc n) x (here_later call (suc n) (omega arith) hx) b)
+        (scope_again call (stms_again ((v, n) ∷ with_number k i σ) ((call n, n) ∷ with_number (option_in call i k) i σ') m t ht bt))))
+    stm_again σ σ' i (Fun w ps t) h b =
         let hi = here_named call w (without_all ps (stms_frees true t)) h in
         let bi = alike_named call far h b w i in
         again_count call (omega arith)
         (then_again call (declared_part w) (declared_again call far w)
         (scope_again call (then_again call (params_part ps) (params_again call far ps)
-        (stms_again (with_numbers ps (suc i) ((w, i) ∷ σ)) (with_numbers (names_in call (suc i) ps) (suc i) ((call i, i) ∷ σ')) (suc i + length ps) t s (here_params call ps (stms_frees true t) hi) (beside_params ps (stms_frees true t) hi bi)))))
-    stm_again σ σ' i (Try t w c) s h b =
+        (stms_again (with_numbers ps (suc i) ((w, i) ∷ σ)) (with_numbers (names_in call (suc i) ps) (suc i) ((call i, i) ∷ σ')) (suc i + length ps) t (here_params call ps (stms_frees true t) hi) (beside_params ps (stms_frees true t) hi bi)))))
+    stm_again σ σ' i (Try t w c) h b =
         let n = i + stms_count t in
         let ht = here_left call (stms_frees true t) (without w (stms_frees true c)) h in
         let hr = here_right call n (stms_frees true t) (without w (stms_frees true c)) (omega arith) h in
         again_count call (omega arith)
-        (then_again call (scope_part (stms_part σ i t s.0)) (scope_again call (stms_again σ σ' i t s.0 ht b))
+        (then_again call (scope_part (stms_part σ i t)) (scope_again call (stms_again σ σ' i t ht b))
         (scope_again call (then_again call (declared_part w) (declared_again call far w)
-        (scope_again call (stms_again ((w, n) ∷ σ) ((call n, n) ∷ σ') (suc n) c s.1 (here_named call w (stms_frees true c) hr) (alike_named call far hr b w n))))))
-    stm_again σ σ' i (Block t) s h b = scope_again call (stms_again σ σ' i t s h b)
+        (scope_again call (stms_again ((w, n) ∷ σ) ((call n, n) ∷ σ') (suc n) c (here_named call w (stms_frees true c) hr) (alike_named call far hr b w n))))))
+    stm_again σ σ' i (Block t) h b = scope_again call (stms_again σ σ' i t h b)
 
-    stms_again : (σ σ' : Env) (i : ℕ) (ss : Stms) → StmsSteady ss → Here call σ i (stms_frees true ss) → Beside σ σ' → Again call σ σ' i (stms_after σ σ' i ss) (i + stms_count ss) (stms_words ss) (stms_words (stms_in call σ i ss)) (stms_items σ i ss)
-    stms_again σ σ' i Done s h b = none_again call (nothing_again call)
-    stms_again σ σ' i (Then x ss) s h b =
+    stms_again : (σ σ' : Env) (i : ℕ) (ss : Stms) → Here call σ i (stms_frees true ss) → Beside σ σ' → Again call σ σ' i (stms_after σ σ' i ss) (i + stms_count ss) (stms_words ss) (stms_words (stms_in call σ i ss)) (stms_items σ i ss)
+    stms_again σ σ' i Done h b = none_again call (nothing_again call)
+    stms_again σ σ' i (Then x ss) h b =
         let rest = without_name (name_by x) (stms_frees true ss) in
         let hx = here_left call (stm_frees true x) rest h in
         let hr = here_right call i (stm_frees true x) rest (omega arith) h in
         let hs = here_later call (i + stm_count x) (stm_named_within x i) (here_option call (name_by x) (stms_frees true ss) hr) in
         again_count call (omega arith)
-        (then_again call (stm_part σ i x s.0) (stm_again σ σ' i x s.0 hx b)
-        (stms_again (with_number (name_by x) i σ) (with_number (option_in call i (name_by x)) i σ') (i + stm_count x) ss s.1 hs (beside_option (name_by x) hr b)))
+        (then_again call (stm_part σ i x) (stm_again σ σ' i x hx b)
+        (stms_again (with_number (name_by x) i σ) (with_number (option_in call i (name_by x)) i σ') (i + stm_count x) ss hs (beside_option (name_by x) hr b)))
 
-    option_exp_again : (σ σ' : Env) (i : ℕ) (x : OptionExp) → OptionExpSteady x → Here call σ i (option_exp_frees true x) → Beside σ σ' → Again call σ σ' i σ' (i + option_exp_count x) (option_exp_words x) (option_exp_words (option_exp_in call σ i x)) (option_exp_items σ i x)
-    option_exp_again σ σ' i NoneExp s h b = none_again call (nothing_again call)
-    option_exp_again σ σ' i (SomeExp x) s h b = exp_again σ σ' i x s h b
+    option_exp_again : (σ σ' : Env) (i : ℕ) (x : OptionExp) → Here call σ i (option_exp_frees true x) → Beside σ σ' → Again call σ σ' i σ' (i + option_exp_count x) (option_exp_words x) (option_exp_words (option_exp_in call σ i x)) (option_exp_items σ i x)
+    option_exp_again σ σ' i NoneExp h b = none_again call (nothing_again call)
+    option_exp_again σ σ' i (SomeExp x) h b = exp_again σ σ' i x h b
 
-    option_stm_again : (σ σ' : Env) (i : ℕ) (a : OptionStm) → OptionStmSteady a → Here call σ i (option_stm_frees true a) → Beside σ σ'
+    option_stm_again : (σ σ' : Env) (i : ℕ) (a : OptionStm) → Here call σ i (option_stm_frees true a) → Beside σ σ'
         → Again call σ σ' i (with_number (option_in call i (option_name_by a)) i σ') (i + option_stm_count a) (option_stm_words a) (option_stm_words (option_stm_in call σ i a)) (option_stm_items σ i a)
-    option_stm_again σ σ' i NoneStm s h b = none_again call (nothing_again call)
-    option_stm_again σ σ' i (SomeStm x) s h b = stm_again σ σ' i x s h b
+    option_stm_again σ σ' i NoneStm h b = none_again call (nothing_again call)
+    option_stm_again σ σ' i (SomeStm x) h b = stm_again σ σ' i x h b
 
-    option_stms_again : (σ σ' : Env) (i : ℕ) (o : OptionStms) → OptionStmsSteady o → Here call σ i (option_stms_frees true o) → Beside σ σ' → Again call σ σ' i σ' (i + option_stms_count o) (option_stms_words o) (option_stms_words (option_stms_in call σ i o)) (option_stms_items σ i o)
-    option_stms_again σ σ' i NoneStms s h b = none_again call (nothing_again call)
-    option_stms_again σ σ' i (SomeStms t) s h b = scope_again call (stms_again σ σ' i t s h b)
+    -- a step is a scope of its own
+    option_step_again : (σ σ' : Env) (i : ℕ) (a : OptionStm) → Here call σ i (option_stm_frees true a) → Beside σ σ'
+        → Again call σ σ' i σ' (i + option_stm_count a) (option_step_words a) (option_step_words (option_stm_in call σ i a)) (option_stm_items σ i a)
+    option_step_again σ σ' i NoneStm h b = none_again call (nothing_again call)
+    option_step_again σ σ' i (SomeStm x) h b = scope_again call (stm_again σ σ' i x h b)
+
+    option_stms_again : (σ σ' : Env) (i : ℕ) (o : OptionStms) → Here call σ i (option_stms_frees true o) → Beside σ σ' → Again call σ σ' i σ' (i + option_stms_count o) (option_stms_words o) (option_stms_words (option_stms_in call σ i o)) (option_stms_items σ i o)
+    option_stms_again σ σ' i NoneStms h b = none_again call (nothing_again call)
+    option_stms_again σ σ' i (SomeStms t) h b = scope_again call (stms_again σ σ' i t h b)
 
   -- a whole program
   pub record AnewToo (program : Stms) (items : List Item) : Type 0 where
     pub items_same : items_of (stms_in call [] 0 program) ≡ Ok items
     pub texts_same : texts_in (stms_in call [] 0 program) ≡ texts_in program
 
-  pub program_again : (program : Stms) (items : List Item) → StmsSteady program → items_of program ≡ Ok items → Here call [] 0 (stms_frees true program) → items ≡ stms_items [] 0 program → AnewToo program items
-  program_again program items s is h found = by (run (stms_words program) start) refl is
+  pub program_again : (program : Stms) (items : List Item) → items_of program ≡ Ok items → Here call [] 0 (stms_frees true program) → items ≡ stms_items [] 0 program → AnewToo program items
+  program_again program items is h found = by (run (stms_words program) start) refl is
     where
       by : (o : Result Known Fault) → run (stms_words program) start ≡ o → items_at o ≡ Ok items → AnewToo program items
       by (Err fault) ran e = absurd cc
       by (Ok k) ran e =
-          let a = stms_again [] [] 0 program s h (alike_none call) in
+          let a = stms_again [] [] 0 program h (alike_none call) in
           let d = a.goes start k start (record { found = λ w. refl }) refl ran (record { found = λ w. refl }) refl (record { none = λ i lt. refl }, tt) in
           let new : items_of (stms_in call [] 0 program) ≡ Ok items = ap items_at d.ran ∙ ap Ok (d.went.items ∙ sym found) in
           let same : texts_of (stms_words program) items ≡ texts_of (stms_words (stms_in call [] 0 program)) items =

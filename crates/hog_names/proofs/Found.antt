@@ -91,9 +91,6 @@ items_so {σ} {τ} {i} {j} {es} e p = subst (Part σ i τ j es) e p
 pub count_so : {σ τ : Env} {i j l : ℕ} {es : List Event} {is : List Item} → j ≡ l → Part σ i τ j es is → Part σ i τ l es is
 count_so {σ} {τ} {i} {j} {l} {es} {is} e p = subst (λ z. Part σ i τ z es is) e p
 
-pub sight_so : {σ τ υ : Env} {i j : ℕ} {es : List Event} {is : List Item} → τ ≡ υ → Part σ i τ j es is → Part σ i υ j es is
-sight_so {σ} {τ} {υ} {i} {j} {es} {is} e p = subst (λ z. Part σ i z j es is) e p
-
 -- a word with its item
 with_this_item : {σ : Env} {i : ℕ} (k m : Known) (x : Item) → with_item k (Ok x) ≡ Ok m → Tied σ k → k.declared ≡ i → Went σ i (x ∷ []) k m
 with_this_item k m x h t c =

@@ -89,7 +89,7 @@ module _ (call : Naming) (far : AreApart call) where
       by (BothSpend limit W) e e' = ap shows e' ∙ sym (ap shows e)
 
 pub numbers_found : NumbersAreFound
-numbers_found program names = items_found program names.items names.steady names.resolved
+numbers_found program names = items_found program names.items names.resolved
 
 -- at the start of a program
 module _ (program : Stms) (names : IsNamed program) (call : Naming) (naming : IsNaming call program) where
@@ -106,7 +106,7 @@ module _ (program : Stms) (names : IsNamed program) (call : Naming) (naming : Is
   anew_is = ap (λ z. program_anew call z program) (numbers_found program names) ∙ program_made call program
 
   too : AnewToo call apart program names.items
-  too = program_again call apart program names.items names.steady names.resolved here (numbers_found program names)
+  too = program_again call apart program names.items names.resolved here (numbers_found program names)
 
 pub numbers_stay : NumbersStay
 numbers_stay program names call naming = ap items_of (anew_is program names call naming) ∙ (too program names call naming).items_same

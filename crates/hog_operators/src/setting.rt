@@ -36,7 +36,7 @@ fn set_key(heap: &mut Heap, cell: u32, key: u32, v: Value, m: &mut Meter) -> Res
     let (Cell::Dict(_), Cell::Text(_)) = (heap.get(cell), heap.get(key)) else {
         return Err(SetStop::Thrown(Kind::TypeError));
     };
-    match heap.set_key(cell, key, v, m) {
+    match heap.set_key_at(cell, key, v, m) {
         Ok(()) => Ok(()),
         Err(Stop::UnitsSpent) => Err(SetStop::UnitsSpent),
         Err(Stop::OutOfMemory) => Err(SetStop::OutOfMemory),

@@ -2,7 +2,10 @@
 
 ghost use Rattle.std.specs.Prelude.{◌≡◌, ◌≤◌, ◌<◌, ◌*◌, ℕ, length, IfOk};
 ghost use Rattle.hog_tree.specs.Plain.{Stms as PlainTree};
+ghost use Rattle.hog_tree.specs.Names.{tree_names};
+ghost use Rattle.hog_tree.specs.Nesting.{stms_nesting};
 ghost use Rattle.hog_tree.specs.View.{tree_of};
+ghost use Rattle.hog_grammar.specs.Names.{names_in};
 ghost use Rattle.hog_grammar.specs.Terminal.{terminals};
 ghost use Rattle.hog_grammar.specs.Spelling.{Spells};
 ghost use Rattle.hog_tree.specs.Count.{of_stms};
@@ -10,6 +13,7 @@ ghost use Rattle.hog_reading.specs.ReadStatements.{program};
 ghost use Rattle.hog_terms.specs.View.{left};
 ghost use Rattle.hog_parser.specs.Before.{tokens_before};
 ghost use Rattle.hog_reading.specs.Gives.{Gives, stmts_of};
+ghost use Rattle.hog_reading.specs.NamesOf.{stmts_names};
 
 use crate::room::Room;
 use hog_grammar::Tokens;
@@ -45,7 +49,8 @@ impl From<AllocError> for ParseStop {
 /// The statements that all tokens spell.
 #[tactic(auto, unfolding(hog_reading::specs::ReadStatements::program))]
 fn whole(alloc: Global, tokens: &Tokens) -> Result<Found<Stmts>, Stop>
-    ensures { Gives stmts_of tokens.now result (program 100 (left tokens.now 0)) }
+    ensures gives { Gives stmts_of tokens.now result (program 100 (left tokens.now 0)) }
+    ensures names { IfOk result (λ f. stmts_names f.tree ≡ names_in tokens.now.text tokens.now.list) }
 {
     let levels = Room::of(alloc, MOST_HEIGHT)?;
     let stmts = several(&levels, alloc, tokens, MOST_HEIGHT, 0)?;
@@ -73,6 +78,10 @@ fn place_of(tokens: &Tokens, at: usize) -> usize
 pub fn parse(alloc: Global, tokens: &Tokens) -> Result<Tree, ParseStop>
     ensures found { IfOk result (λ t. (h : ℕ) × (h ≤ 100) × Spells (tree_of t) (terminals tokens.now.text tokens.now.list) h) }
     ensures count { IfOk result (λ t. of_stms (tree_of t) ≤ 2 * length tokens.now.list) }
+    ensures nesting { IfOk result (λ t. stms_nesting (tree_of t) ≤ 100) }
+
+    // The words that name something, each with its place, are those of the text.
+    ensures names { IfOk result (λ t. tree_names t ≡ names_in tokens.now.text tokens.now.list) }
     ensures syntax { (at : ℕ) → result ≡ Err (ParseStop.Syntax at) → (tree : PlainTree) (h : ℕ) → ¬ (Spells tree (terminals tokens.now.text tokens.now.list) h) }
     ensures nested { (at : ℕ) → result ≡ Err (ParseStop.TooNested at) → (tree : PlainTree) (h : ℕ) → Spells tree (terminals tokens.now.text tokens.now.list) h → 100 < h }
     ensures after_forty { (at : ℕ) → result ≡ Err (ParseStop.TooNested at) → 40 ≤ tokens_before at tokens.now.list }

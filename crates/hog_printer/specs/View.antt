@@ -10,5 +10,5 @@ quotes_of Text = p.OfText
 quotes_of Template = p.OfTemplate
 
 -- the new text is the old one and then these bytes
-abbrev pub Adds : String Global → String Global → List ℕ → Type 0
-Adds old new bytes = string_bytes new ≡ string_bytes old ++ bytes
+abbrev pub AddsText : String Global → String Global → List ℕ → Type 0
+AddsText old new bytes = string_bytes new ≡ string_bytes old ++ bytes

@@ -2,7 +2,7 @@
 
 ghost use Rattle.std.specs.Prelude.{◌≡◌, OnOk, IfOk};
 ghost use Rattle.hog_printer.specs.Print.{indentation, line_end, within};
-ghost use Rattle.hog_printer.specs.View.{Adds};
+ghost use Rattle.hog_printer.specs.View.{AddsText};
 
 use std::alloc::AllocError;
 
@@ -28,9 +28,9 @@ pub fn within(at: Layout) -> Result<Layout, AllocError>
     }
 }
 
-/// Adds the spaces before a line.
+/// AddsText the spaces before a line.
 fn indent(out: &mut String, depth: usize) -> Result<(), AllocError>
-    ensures { OnOk result (Adds out.old out.new (indentation depth)) }
+    ensures { OnOk result (AddsText out.old out.new (indentation depth)) }
 {
     for _ in 0..depth {
         out.push_str("    ")?;
@@ -38,9 +38,9 @@ fn indent(out: &mut String, depth: usize) -> Result<(), AllocError>
     Ok(())
 }
 
-/// Adds the end of a line, and what stands before the next.
+/// AddsText the end of a line, and what stands before the next.
 pub fn end_line(out: &mut String, at: Layout) -> Result<(), AllocError>
-    ensures { OnOk result (Adds out.old out.new (line_end at)) }
+    ensures { OnOk result (AddsText out.old out.new (line_end at)) }
 {
     match at {
         Layout::Lines(depth) => {

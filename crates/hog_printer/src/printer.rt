@@ -4,7 +4,7 @@ ghost use Rattle.std.specs.Prelude.{◌≡◌, ◌++◌, OnOk, IfOk, codes};
 ghost use Rattle.hog_tree.specs.Plain.{Dict, Text, Template, NoPart};
 ghost use Rattle.hog_tree.specs.View.{exp_of, exps_from, part_of, parts_from, dict_of, body_of, stm_of, stms_from, option_exp_from, option_stm_from, tree_of};
 ghost use Rattle.hog_printer.specs.Print.{held, form_of, is_compound, is_held_base, expression, items, parts, body, condition, clause, step, statement, lines, braced, within, printed};
-ghost use Rattle.hog_printer.specs.View.{Adds};
+ghost use Rattle.hog_printer.specs.View.{AddsText};
 
 use crate::form::{form_of, is_compound, is_dict, is_held_base, is_held_body};
 use crate::layout::{Layout, end_line, within};
@@ -15,20 +15,20 @@ use hog_value::HogText;
 use std::alloc::{AllocError, Global};
 use std::convert::AsStr;
 
-// Adds a text in its quotes.
+// AddsText a text in its quotes.
 fn text(out: &mut String, bytes: &HogText) -> Result<(), AllocError>
-    ensures { OnOk result (Adds out.old out.new (expression (Text bytes.now))) }
+    ensures { OnOk result (AddsText out.old out.new (expression (Text bytes.now))) }
 {
     out.push_str("'")?;
     quoted(out, Quotes::Text, bytes.as_str())?;
     Ok(out.push_str("'")?)
 }
 
-// Adds an expression.
+// AddsText an expression.
 #[cycle(printer)]
 #[tactic(auto, using(hog_tree::proofs::Rows::array_is, hog_tree::proofs::Rows::call_is, hog_tree::proofs::Rows::template_is))]
 fn expr(out: &mut String, e: &Expr) -> Result<(), AllocError>
-    ensures { OnOk result (Adds out.old out.new (expression (exp_of e.now))) }
+    ensures { OnOk result (AddsText out.old out.new (expression (exp_of e.now))) }
 {
     match e {
         Expr::Int(n) => number(out, *n),
@@ -69,20 +69,20 @@ fn expr(out: &mut String, e: &Expr) -> Result<(), AllocError>
     }
 }
 
-// Adds a text and an operand.
+// AddsText a text and an operand.
 #[cycle(printer)]
 fn prefix(out: &mut String, before: &str, e: &Expr) -> Result<(), AllocError>
-    ensures { OnOk result (Adds out.old out.new
+    ensures { OnOk result (AddsText out.old out.new
         (before.now ++ held (is_compound (form_of (exp_of e.now))) (expression (exp_of e.now)))) }
 {
     out.push_str(before)?;
     enclosed(out, is_compound(form_of(e)), e)
 }
 
-// Adds a base, a mark and the name of a property.
+// AddsText a base, a mark and the name of a property.
 #[cycle(printer)]
 fn property(out: &mut String, e: &Expr, mark: &str, name: &HogText) -> Result<(), AllocError>
-    ensures { OnOk result (Adds out.old out.new
+    ensures { OnOk result (AddsText out.old out.new
         (held (is_held_base (form_of (exp_of e.now))) (expression (exp_of e.now))
         ++ (mark.now ++ name.now))) }
 {
@@ -91,10 +91,10 @@ fn property(out: &mut String, e: &Expr, mark: &str, name: &HogText) -> Result<()
     word(out, name)
 }
 
-// Adds an expression between two texts.
+// AddsText an expression between two texts.
 #[cycle(printer)]
 fn around(out: &mut String, before: &str, e: &Expr, after: &str) -> Result<(), AllocError>
-    ensures { OnOk result (Adds out.old out.new
+    ensures { OnOk result (AddsText out.old out.new
         (before.now ++ (expression (exp_of e.now) ++ after.now))) }
 {
     out.push_str(before)?;
@@ -102,10 +102,10 @@ fn around(out: &mut String, before: &str, e: &Expr, after: &str) -> Result<(), A
     Ok(out.push_str(after)?)
 }
 
-// Adds an expression, in parentheses or without.
+// AddsText an expression, in parentheses or without.
 #[cycle(printer)]
 fn enclosed(out: &mut String, parentheses: bool, e: &Expr) -> Result<(), AllocError>
-    ensures { OnOk result (Adds out.old out.new (held parentheses (expression (exp_of e.now)))) }
+    ensures { OnOk result (AddsText out.old out.new (held parentheses (expression (exp_of e.now)))) }
 {
     if parentheses {
         around(out, "(", e, ")")
@@ -114,10 +114,10 @@ fn enclosed(out: &mut String, parentheses: bool, e: &Expr) -> Result<(), AllocEr
     }
 }
 
-// Adds expressions with commas between them, between two texts.
+// AddsText expressions with commas between them, between two texts.
 #[cycle(printer)]
 fn exprs(out: &mut String, before: &str, list: &Exprs, after: &str) -> Result<(), AllocError>
-    ensures { OnOk result (Adds out.old out.new
+    ensures { OnOk result (AddsText out.old out.new
         (before.now ++ (items (exps_from list.now.list.items) ++ after.now))) }
 {
     out.push_str(before)?;
@@ -129,10 +129,10 @@ fn exprs(out: &mut String, before: &str, list: &Exprs, after: &str) -> Result<()
     Ok(out.push_str(after)?)
 }
 
-// Adds characters of a template, or an expression in a hole.
+// AddsText characters of a template, or an expression in a hole.
 #[cycle(printer)]
 fn part(out: &mut String, p: &Part) -> Result<(), AllocError>
-    ensures { OnOk result (Adds out.old out.new (parts (part_of p.now NoPart))) }
+    ensures { OnOk result (AddsText out.old out.new (parts (part_of p.now NoPart))) }
 {
     match p {
         Part::Text(bytes) => quoted(out, Quotes::Template, bytes.as_str()),
@@ -140,10 +140,10 @@ fn part(out: &mut String, p: &Part) -> Result<(), AllocError>
     }
 }
 
-// Adds a template.
+// AddsText a template.
 #[cycle(printer)]
 fn template(out: &mut String, list: &Parts) -> Result<(), AllocError>
-    ensures { OnOk result (Adds out.old out.new
+    ensures { OnOk result (AddsText out.old out.new
         (expression (Template (parts_from list.now.list.items)))) }
 {
     out.push_str("f'")?;
@@ -153,10 +153,10 @@ fn template(out: &mut String, list: &Parts) -> Result<(), AllocError>
     Ok(out.push_str("'")?)
 }
 
-// Adds a text, a key and its value.
+// AddsText a text, a key and its value.
 #[cycle(printer)]
 fn dict_item(out: &mut String, before: &str, item: &DictItem) -> Result<(), AllocError>
-    ensures { OnOk result (Adds out.old out.new
+    ensures { OnOk result (AddsText out.old out.new
         (before.now ++ (expression (exp_of item.now.key)
         ++ (codes ": " ++ expression (exp_of item.now.value))))) }
 {
@@ -164,10 +164,10 @@ fn dict_item(out: &mut String, before: &str, item: &DictItem) -> Result<(), Allo
     expr(out, &item.value)
 }
 
-// Adds a dictionary.
+// AddsText a dictionary.
 #[cycle(printer)]
 fn dict(out: &mut String, list: &DictItems) -> Result<(), AllocError>
-    ensures { OnOk result (Adds out.old out.new (expression (Dict (dict_of list.now)))) }
+    ensures { OnOk result (AddsText out.old out.new (expression (Dict (dict_of list.now)))) }
 {
     out.push_str("{")?;
     let mut comma = "";
@@ -178,11 +178,11 @@ fn dict(out: &mut String, list: &DictItems) -> Result<(), AllocError>
     Ok(out.push_str("}")?)
 }
 
-// Adds what stands after an arrow.
+// AddsText what stands after an arrow.
 #[cycle(printer)]
 #[tactic(auto, using(hog_tree::proofs::Rows::body_is))]
 fn arrow_body(out: &mut String, arrow: &ArrowBody) -> Result<(), AllocError>
-    ensures { OnOk result (Adds out.old out.new (body (body_of arrow.now))) }
+    ensures { OnOk result (AddsText out.old out.new (body (body_of arrow.now))) }
 {
     match arrow {
         ArrowBody::One(e) => enclosed(out, is_held_body(form_of(e)), e),
@@ -190,10 +190,10 @@ fn arrow_body(out: &mut String, arrow: &ArrowBody) -> Result<(), AllocError>
     }
 }
 
-// Adds a declaration, an assignment or an expression, without a `;`. Any other statement adds nothing.
+// AddsText a declaration, an assignment or an expression, without a `;`. Any other statement adds nothing.
 #[cycle(printer)]
 fn simple(out: &mut String, s: &Stmt) -> Result<(), AllocError>
-    ensures { OnOk result (Adds out.old out.new (clause (stm_of s.now))) }
+    ensures { OnOk result (AddsText out.old out.new (clause (stm_of s.now))) }
 {
     match s {
         Stmt::Let(name, initial) => {
@@ -221,10 +221,10 @@ fn simple(out: &mut String, s: &Stmt) -> Result<(), AllocError>
     }
 }
 
-// Adds a start or a step, if there is one.
+// AddsText a start or a step, if there is one.
 #[cycle(printer)]
 fn optional(out: &mut String, s: &Option<Box<Stmt>>) -> Result<(), AllocError>
-    ensures { OnOk result (Adds out.old out.new (step (option_stm_from s.now))) }
+    ensures { OnOk result (AddsText out.old out.new (step (option_stm_from s.now))) }
 {
     match s {
         Some(s) => simple(out, s),
@@ -232,10 +232,10 @@ fn optional(out: &mut String, s: &Option<Box<Stmt>>) -> Result<(), AllocError>
     }
 }
 
-// Adds a condition, if there is one.
+// AddsText a condition, if there is one.
 #[cycle(printer)]
 fn condition(out: &mut String, e: &Option<Expr>) -> Result<(), AllocError>
-    ensures { OnOk result (Adds out.old out.new (condition (option_exp_from e.now))) }
+    ensures { OnOk result (AddsText out.old out.new (condition (option_exp_from e.now))) }
 {
     match e {
         Some(e) => expr(out, e),
@@ -243,11 +243,11 @@ fn condition(out: &mut String, e: &Option<Expr>) -> Result<(), AllocError>
     }
 }
 
-// Adds a statement, from its first byte to its last.
+// AddsText a statement, from its first byte to its last.
 #[cycle(printer)]
 #[tactic(auto, using(hog_tree::proofs::Rows::block_is))]
 fn stmt(out: &mut String, at: Layout, s: &Stmt) -> Result<(), AllocError>
-    ensures { OnOk result (Adds out.old out.new (statement at (stm_of s.now))) }
+    ensures { OnOk result (AddsText out.old out.new (statement at (stm_of s.now))) }
 {
     match s {
         Stmt::Let(_, _) | Stmt::Assign(_, _) | Stmt::Do(_) => {
@@ -308,10 +308,10 @@ fn stmt(out: &mut String, at: Layout, s: &Stmt) -> Result<(), AllocError>
     }
 }
 
-// Adds statements in braces.
+// AddsText statements in braces.
 #[cycle(printer)]
 fn block(out: &mut String, at: Layout, list: &Stmts) -> Result<(), AllocError>
-    ensures { OnOk result (Adds out.old out.new
+    ensures { OnOk result (AddsText out.old out.new
         (braced at (lines (within at) (stms_from list.now.list.items)))) }
 {
     let inner = within(at)?;

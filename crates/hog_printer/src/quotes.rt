@@ -3,7 +3,7 @@
 ghost use Rattle.std.specs.Prelude.{◌≡◌, ◌<◌, ◌∷◌, [], OnOk, MatchOption, encode_utf8};
 ghost use Rattle.hog_grammar.specs.Pieces.{Plain, inside};
 ghost use Rattle.hog_printer.specs.Print.{quoted, written};
-ghost use Rattle.hog_printer.specs.View.{Adds, quotes_of};
+ghost use Rattle.hog_printer.specs.View.{AddsText, quotes_of};
 
 use std::alloc::AllocError;
 
@@ -35,10 +35,10 @@ fn escape(quotes: Quotes, c: char) -> Option<&'static str>
     }
 }
 
-/// Adds a character as it stands between quotes.
+/// AddsText a character as it stands between quotes.
 #[tactic(auto, using(crate::proofs::Chars::low_char, crate::proofs::Chars::plain_char))]
 fn put(out: &mut String, quotes: Quotes, c: char) -> Result<(), AllocError>
-    ensures { OnOk result (Adds out.old out.new (quoted (quotes_of quotes) (encode_utf8 c))) }
+    ensures { OnOk result (AddsText out.old out.new (quoted (quotes_of quotes) (encode_utf8 c))) }
 {
     match escape(quotes, c) {
         Some(spelling) => Ok(out.push_str(spelling)?),
@@ -46,9 +46,9 @@ fn put(out: &mut String, quotes: Quotes, c: char) -> Result<(), AllocError>
     }
 }
 
-/// Adds a text as it stands between quotes.
+/// AddsText a text as it stands between quotes.
 pub fn quoted(out: &mut String, quotes: Quotes, text: &str) -> Result<(), AllocError>
-    ensures { OnOk result (Adds out.old out.new (quoted (quotes_of quotes) text.now)) }
+    ensures { OnOk result (AddsText out.old out.new (quoted (quotes_of quotes) text.now)) }
 {
     for c in text.chars() {
         put(out, quotes, c)?;

@@ -4,7 +4,7 @@ ghost use Rattle.std.specs.Prelude.{◌≡◌, OnOk};
 ghost use Rattle.std.specs.Fmt.{signed_decimal};
 ghost use Rattle.hog_tree.specs.View.{words_of, option_word_of};
 ghost use Rattle.hog_printer.specs.Print.{operator, names, bound};
-ghost use Rattle.hog_printer.specs.View.{Adds};
+ghost use Rattle.hog_printer.specs.View.{AddsText};
 
 use hog_tree::tree::{BinaryOp, Named, Names};
 use hog_value::HogText;
@@ -33,26 +33,26 @@ pub fn operator(op: BinaryOp) -> &'static str
     }
 }
 
-/// Adds a whole number.
+/// AddsText a whole number.
 pub fn number(out: &mut String, n: i64) -> Result<(), AllocError>
-    ensures { OnOk result (Adds out.old out.new (signed_decimal n)) }
+    ensures { OnOk result (AddsText out.old out.new (signed_decimal n)) }
 {
     let mut buffer = Buffer::new();
     out.push_str(buffer.format(n))?;
     Ok(())
 }
 
-/// Adds a word.
+/// AddsText a word.
 pub fn word(out: &mut String, text: &HogText) -> Result<(), AllocError>
-    ensures { OnOk result (Adds out.old out.new text.now) }
+    ensures { OnOk result (AddsText out.old out.new text.now) }
 {
     out.push_str(text.as_str())?;
     Ok(())
 }
 
-/// Adds names with commas between them.
+/// AddsText names with commas between them.
 pub fn names(out: &mut String, list: &Names) -> Result<(), AllocError>
-    ensures { OnOk result (Adds out.old out.new (names (words_of list.now))) }
+    ensures { OnOk result (AddsText out.old out.new (names (words_of list.now))) }
 {
     let mut comma = "";
     for name in list.items() {
@@ -63,9 +63,9 @@ pub fn names(out: &mut String, list: &Names) -> Result<(), AllocError>
     Ok(())
 }
 
-/// Adds the names of a `for .. in`.
+/// AddsText the names of a `for .. in`.
 pub fn bound(out: &mut String, key: &Option<Named>, value: &Named) -> Result<(), AllocError>
-    ensures { OnOk result (Adds out.old out.new (bound (option_word_of key.now) value.now.word)) }
+    ensures { OnOk result (AddsText out.old out.new (bound (option_word_of key.now) value.now.word)) }
 {
     if let Some(key) = key {
         word(out, &key.word)?;

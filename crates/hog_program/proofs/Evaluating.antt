@@ -1,9 +1,8 @@
 -- A run without replies shows all that its program means, and is short.
-use Rattle.std.proofs.Common.{◌≡◌, ◌<◌, ◌≤◌, ◌+◌, ◌-◌, ◌^◌, ℕ, zero, suc, List, [], ◌∷◌, ◌++◌, length, drop, Option, Some, None, arith, refl, ap, ap₂, sym, subst, ◌∙◌}
+use Rattle.std.proofs.Common.{◌≡◌, ◌<◌, ◌≤◌, ◌+◌, ◌-◌, ◌^◌, ℕ, zero, suc, List, [], ◌∷◌, Some, None, arith, refl, ap, sym, subst, ◌∙◌}
 use Rattle.std.specs.Prelude.{◌*◌}
 use Rattle.std.proofs.lemmas.List.{drop_all}
 use Rattle.std.proofs.lemmas.Nat.{mul-le}
-use Rattle.hog_value.specs.declared.trace.End.{End}
 use Rattle.hog_value.specs.Meters.{max_turns}
 use Rattle.hog_ops.specs.Plain.{Op, Ops, NoOp, MoreOp, Callable}
 use Rattle.hog_ops.specs.Table.{size, span}

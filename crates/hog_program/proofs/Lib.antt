@@ -1,8 +1,8 @@
 pub mod Refusals
 pub mod Preludes
 pub mod PreludeTexts
+pub mod Places
 pub mod Wholes
-pub mod Spelled
 pub mod Nesting
 pub mod Courses
 pub mod Evaluating

@@ -1,5 +1,5 @@
 -- The prelude: functions in Hog that a program may use, and where they are placed.
-use Rattle.std.specs.Prelude.{pos, List, [], ◌∷◌, Bool, true, false, None, ◌&&◌, codes, bytes_eq, slice_range, if◌then◌else◌}
+use Rattle.std.specs.Prelude.{ℕ, pos, List, [], ◌∷◌, Bool, true, false, None, ◌&&◌, codes, bytes_eq, slice_range, sum_by, if◌then◌else◌}
 use Rattle.std.specs.List.{list_any}
 use Rattle.hog_tree.specs.declared.tree.BinaryOp.TheVariants.{Plus}
 use Rattle.hog_tree.specs.Plain.{Word, Exp, Int, Truth, Name, Array, Binary, Index, Call, NoExp, MoreExp, Stm, Let, Assign, Return, If, ForIn, Fun, Block, Stms, Done, Then, SomeExp, NoneStms}
@@ -7,6 +7,8 @@ use Rattle.hog_grammar.specs.declared.token.Token.{Token}
 use Rattle.hog_grammar.specs.declared.token.TokenKind.{TokenKind}
 use Rattle.hog_grammar.specs.declared.token.TokenKind.TheVariants as k
 use Rattle.hog_grammar.specs.Pieces.{Lexed}
+use Rattle.hog_scope.specs.Literals.{item_count}
+use Rattle.hog_scope.specs.Words.{stms_words}
 
 -- `f(x)`, `length(r) + 1`, and `r[length(r) + 1] := e;`
 abbrev calls : Word → Word → Exp
@@ -66,3 +68,7 @@ placed c (f ∷ fs) rest = if mentions c f.0 then Then f.1 (placed c fs rest) el
 abbrev pub with_prelude : Lexed → Stms → Stms
 with_prelude c program =
     if list_any (λ (f : Word × Stm). mentions c f.0) prelude then placed c prelude (Then (Block program) Done) else program
+
+-- how many words that name something stand in front of the text's own: those of the functions that are placed before it
+abbrev pub words_in_front : Lexed → ℕ
+words_in_front c = sum_by item_count (stms_words (placed c prelude Done))

@@ -2,8 +2,9 @@
 
 ghost use Rattle.std.specs.Prelude.{◌≡◌, ℕ, List};
 ghost use Rattle.hog_bridge.specs.Laws.{IsNamed};
+ghost use Rattle.hog_scope.specs.Scopes.{Cause};
 ghost use Rattle.hog_tree.specs.Plain.{Stms};
-ghost use Rattle.hog_program.specs.Build.{IsBuilt, IsUnbuilt};
+ghost use Rattle.hog_program.specs.Build.{HasFault, IsBuilt, IsUnbuilt};
 ghost use Rattle.hog_program.specs.Course.{OneMeaning, CourseShowsMeaning, CourseIsShort};
 ghost use Rattle.hog_program.specs.Source.{IsProgram, IsNone, ReadsBack};
 ghost use Rattle.hog_program.specs.declared.stop.BuildStop.{BuildStop};
@@ -27,6 +28,14 @@ pub fn program_or_none()
 /// A source has one whole program at most.
 pub fn one_whole()
     ensures { (source : List ℕ) (a b : Stms) → IsBuilt source a → IsBuilt source b → a ≡ b }
+{
+    hog_tokens::laws::one_list();
+    hog_spelling::laws::one_tree();
+}
+
+/// A source has one fault of its names at most, at one place.
+pub fn one_fault()
+    ensures { (source : List ℕ) (a b : Cause) (m n : ℕ) → HasFault source a m → HasFault source b n → (a ≡ b) × (m ≡ n) }
 {
     hog_tokens::laws::one_list();
     hog_spelling::laws::one_tree();

@@ -1,10 +1,11 @@
 //! The prelude.
 
-ghost use Rattle.std.specs.Prelude.{◌≡◌, ℕ, List, IfOk, OnOk, codes};
+ghost use Rattle.std.specs.Prelude.{◌≡◌, ℕ, List, drop, IfOk, OnOk, codes};
+ghost use Rattle.hog_tree.specs.Names.{tree_names};
 ghost use Rattle.hog_tree.specs.Plain.{Stm, Then, Done};
 ghost use Rattle.hog_tree.specs.View.{stm_of, stms_from, tree_of};
 ghost use Rattle.hog_program.specs.Placing.{added};
-ghost use Rattle.hog_program.specs.Prelude.{array_map, array_filter, array_exists, is_word_kind, mentions, with_prelude};
+ghost use Rattle.hog_program.specs.Prelude.{array_map, array_filter, array_exists, is_word_kind, mentions, with_prelude, words_in_front};
 ghost use Rattle.hog_program.specs.Source.{IsProgram};
 
 use crate::laws::{one_tree, program_or_none};
@@ -26,9 +27,11 @@ const ARRAY_FILTER: &[u8] =
 const ARRAY_EXISTS: &[u8] =
     b"fun arrayExists(f, a) {\n    for (let x in a) {\n        if (f(x)) {\n            return true;\n        }\n    }\n    return false;\n}\n";
 
-/// The program with what its text mentions of the prelude.
+/// The program with what its text mentions of the prelude. The program's words keep their places, and stand behind those
+/// of the prelude.
 pub fn with_prelude(alloc: Global, tokens: &Tokens, program: Tree) -> Result<Tree, AllocError>
-    ensures { IfOk result (λ whole. tree_of whole ≡ with_prelude tokens.now (tree_of program)) }
+    ensures names { IfOk result (λ whole. drop (words_in_front tokens.now) (tree_names whole) ≡ tree_names program) }
+    ensures whole { IfOk result (λ whole. tree_of whole ≡ with_prelude tokens.now (tree_of program)) }
 {
     let mut list = Vec::new(alloc);
     place_map(alloc, tokens, &mut list)?;

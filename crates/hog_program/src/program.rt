@@ -19,7 +19,7 @@ use std::alloc::{AllocError, Global};
 use std::marker::Model;
 use vm_operations::Machine;
 
-/// A program: its source, and the code of the whole of it.
+/// A program: its source, which is built, and the code of the whole of it. The type keeps that this is its code.
 #[derive(Drop)]
 pub struct Program {
     source: HogText,
@@ -27,7 +27,7 @@ pub struct Program {
 }
 
 impl Model for Program {
-    ghost use Rattle.hog_program.specs.Program.{Built};
+    ghost use Rattle.hog_program.specs.Program.{Built, HasCode};
 
     ghost Value = { Built };
 
@@ -37,6 +37,8 @@ impl Model for Program {
     ghost coded = { Prim.hlevel (codes, coded_ops) };
 
     ghost view = { λ p. record { source = p.source; code = p.code } };
+
+    ghost invariant = { λ p. HasCode p.source p.code };
 }
 
 impl Program {
@@ -56,16 +58,18 @@ impl Program {
         }
     }
 
-    /// The text that it was built from.
+    /// The text that it was built from. Takes no memory.
     pub fn source(&self) -> &HogText
-        ensures { result.now ≡ self.now.source }
+        ensures value { result.now ≡ self.now.source }
+        ensures built { HasCode self.now.source self.now.code }
     {
         &self.source
     }
 
-    /// The code of the whole program.
+    /// The code of the whole program. Takes no memory.
     pub fn code(&self) -> &Code
-        ensures { result.now ≡ self.now.code }
+        ensures value { result.now ≡ self.now.code }
+        ensures built { HasCode self.now.source self.now.code }
     {
         &self.code
     }

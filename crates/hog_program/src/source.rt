@@ -2,7 +2,7 @@
 
 ghost use Rattle.std.specs.Prelude.{◌≡◌, ◌≢◌, ◌≤◌, ◌*◌, ℕ, List, length, IfOk, Err};
 ghost use Rattle.hog_bridge.specs.Laws.{IsNamed};
-ghost use Rattle.hog_compiler.specs.Nesting.{deepest, stms_nesting};
+ghost use Rattle.hog_tree.specs.Nesting.{deepest, stms_nesting};
 ghost use Rattle.hog_tree.specs.Count.{of_stms};
 ghost use Rattle.hog_tree.specs.Plain.{Stms};
 ghost use Rattle.hog_tree.specs.View.{tree_of};

@@ -1,3 +1,4 @@
 pub mod Read
 pub mod ReadStatements
 pub mod Gives
+pub mod NamesOf

@@ -1,11 +1,13 @@
 //! Statements in braces.
 
-ghost use Rattle.std.specs.Prelude.{◌≡◌, ◌<◌, ◌≤◌, ◌+◌, length, IfOk};
+ghost use Rattle.std.specs.Prelude.{◌≡◌, ◌<◌, ◌≤◌, ◌+◌, length, IfOk, true};
+ghost use Rattle.hog_grammar.specs.Forms.{ends_block};
 ghost use Rattle.hog_tree.specs.View.{stm_of};
 ghost use Rattle.hog_reading.specs.Read.{several, braced};
 ghost use Rattle.hog_reading.specs.ReadStatements.{readers, block};
-ghost use Rattle.hog_terms.specs.View.{left};
+ghost use Rattle.hog_terms.specs.View.{left, IsPlaced};
 ghost use Rattle.hog_reading.specs.Gives.{Gives, stmts_of};
+ghost use Rattle.hog_reading.specs.NamesOf.{stmts_names};
 
 use crate::found::{Found, Stop};
 use crate::readers::Readers;
@@ -26,6 +28,7 @@ pub fn block<R: Readers>(
     requires deep { room ≤ R.levels again.now }
     ensures low { IfOk result (λ f. f.height ≤ room) }
     ensures gives { Gives stmts_of tokens.now result (block (readers room) (left tokens.now at)) }
+    ensures places { IfOk result (λ f. IsPlaced (stmts_names f.tree) tokens.now at f.at) }
 {
     match open_brace(tokens, at) {
         Some(after) => braced(again, alloc, tokens, room, after),
@@ -46,6 +49,7 @@ pub fn braced<R: Readers>(
     requires deep { room ≤ R.levels again.now }
     ensures low { IfOk result (λ f. f.height ≤ room) }
     ensures gives { Gives stmts_of tokens.now result (braced (readers room).statement (left tokens.now at)) }
+    ensures places { IfOk result (λ f. IsPlaced (stmts_names f.tree) tokens.now at f.at) }
 {
     let body = several(again, alloc, tokens, room, at)?;
     match close_brace(tokens, body.at) {
@@ -70,6 +74,8 @@ pub fn several<R: Readers>(
     requires deep { room ≤ R.levels again.now }
     ensures low { IfOk result (λ f. f.height ≤ room) }
     ensures gives { Gives stmts_of tokens.now result (several (readers room).statement (length (left tokens.now at) + 1) (left tokens.now at)) }
+    ensures ends { IfOk result (λ f. ends_block (left tokens.now f.at) ≡ true) }
+    ensures places { IfOk result (λ f. IsPlaced (stmts_names f.tree) tokens.now at f.at) }
 {
     let mut list = Vec::new(alloc);
     let mut height = 0;

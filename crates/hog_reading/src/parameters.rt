@@ -3,7 +3,7 @@
 ghost use Rattle.std.specs.Prelude.{◌≡◌, ◌≤◌, false, IfOk};
 ghost use Rattle.hog_tree.specs.View.{words_of};
 ghost use Rattle.hog_terms.specs.Marks.{after_close};
-ghost use Rattle.hog_terms.specs.View.{left};
+ghost use Rattle.hog_terms.specs.View.{left, IsPlaced};
 ghost use Rattle.hog_reading.specs.Read.{listing, name};
 ghost use Rattle.hog_reading.specs.Gives.{Gives};
 
@@ -19,6 +19,7 @@ use std::alloc::Global;
 pub fn names(alloc: Global, tokens: &Tokens, at: usize) -> Result<Found<Names>, Stop>
     ensures low { IfOk result (λ f. f.height ≡ 0) }
     ensures gives { Gives words_of tokens.now result (listing name false after_close (left tokens.now at)) }
+    ensures places { IfOk result (λ f. IsPlaced f.tree tokens.now at f.at) }
 {
     let mut list = Vec::new(alloc);
     if let Some(at) = close(tokens, at) {

@@ -1,8 +1,9 @@
 //! What reads the parts of a form. Each reader is proved for anything that does.
 
 ghost use Rattle.std.specs.Prelude.{◌≡◌, ℕ, ◌≤◌, IfOk};
+ghost use Rattle.hog_tree.specs.Names.{exp_names, stm_names};
 ghost use Rattle.hog_tree.specs.View.{exp_of, stm_of};
-ghost use Rattle.hog_terms.specs.View.{left};
+ghost use Rattle.hog_terms.specs.View.{left, IsPlaced};
 ghost use Rattle.hog_reading.specs.ReadStatements.{readers};
 ghost use Rattle.hog_reading.specs.Gives.{Gives};
 
@@ -28,7 +29,8 @@ pub trait Readers {
         requires few { room ≤ 100 }
         requires deep { room ≤ levels self.now }
         ensures low { IfOk result (λ f. f.height ≤ room) }
-        ensures gives { Gives exp_of tokens.now result ((readers room).expression level (left tokens.now at)) };
+        ensures gives { Gives exp_of tokens.now result ((readers room).expression level (left tokens.now at)) }
+        ensures places { IfOk result (λ f. IsPlaced (exp_names f.tree) tokens.now at f.at) };
 
     /// A statement of height `room` at most that doesn't begin with `;`.
     fn statement(
@@ -41,7 +43,8 @@ pub trait Readers {
         requires few { room ≤ 100 }
         requires deep { room ≤ levels self.now }
         ensures low { IfOk result (λ f. f.height ≤ room) }
-        ensures gives { Gives stm_of tokens.now result ((readers room).statement (left tokens.now at)) };
+        ensures gives { Gives stm_of tokens.now result ((readers room).statement (left tokens.now at)) }
+        ensures places { IfOk result (λ f. IsPlaced (stm_names f.tree) tokens.now at f.at) };
 }
 
 impl<R: Readers> Readers for Box<R> {

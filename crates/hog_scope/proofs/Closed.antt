@@ -1,11 +1,11 @@
 -- Scopes that a part of a program begins it also ends: after an expression the names in sight are those before it,
 -- and after a statement the scopes around are.
-use Rattle.std.proofs.Common.{◌≡◌, ℕ, List, [], ◌∷◌, ◌++◌, length, Bool, true, false, cond, Option, Some, None, Result, Ok, Err, is_some, refl, sym, ap, ◌∙◌, subst}
+use Rattle.std.proofs.Common.{◌≡◌, ℕ, List, [], ◌∷◌, ◌++◌, length, Bool, true, false, cond, Option, Some, None, Result, Ok, Err, is_some, refl, sym, ap, ◌∙◌}
 use Rattle.hog_value.specs.Natives.{native_named}
 use Rattle.hog_tree.specs.Plain.{Word, Exp, Exps, Parts, Pairs, Body, Stm, Stms, OptionExp, OptionStm, OptionStms, Int, Truth, Null, Text, Template, Name, Array, Dict, Neg, Not, Binary, Coalesce, Prop, PropNullish, Index, Call, Lambda, NoExp, MoreExp, NoPart, MoreText, MoreHole, NoPair, MorePair, OneExp, ManyStms, Let, Assign, Do, Return, Throw, If, While, For, ForIn, Fun, Try, Block, Done, Then, NoneExp, SomeExp, NoneStm, SomeStm, NoneStms, SomeStms}
 use Rattle.hog_scope.specs.declared.item.Item.{Item}
-use Rattle.hog_scope.specs.Words.{Event, Opens, Closes, Declares, Binds, Reads, Assigns, Calls, Spells, scope_of, declared, all_declared, declares, binds, count_of, callee, target, exp_words, exps_words, parts_words, pairs_words, body_words, stm_words, stms_words, option_exp_words, option_stm_words, option_stms_words}
-use Rattle.hog_scope.specs.Scopes.{Scope, Known, Cause, Fault, AlreadyDeclared, step, run, onward, opened, closed, with_item, read_item, assigned_item, called_item, variable_in, with_seen, with_name, seen_at}
+use Rattle.hog_scope.specs.Words.{Event, Closes, Declares, Binds, Reads, Assigns, Calls, Spells, scope_of, declared, all_declared, declares, binds, count_of, callee, target, exp_words, exps_words, parts_words, pairs_words, body_words, stm_words, stms_words, option_exp_words, option_stm_words, option_step_words, option_stms_words}
+use Rattle.hog_scope.specs.Scopes.{Scope, Known, Cause, AlreadyDeclared, step, run, onward, opened, closed, with_item, read_item, assigned_item, called_item, variable_in, with_seen, with_name, seen_at}
 
 -- the scopes around are as before these events
 pub record KeepsAround (es : List Event) : Type 0 where
@@ -217,7 +217,7 @@ mutual
   stm_closed (If c b o) = around_of (scopes_then (scopes_then (exp_closed c) (scope_kept (stms_closed b))) (option_stms_closed o))
   stm_closed (While c b) = around_of (scopes_then (exp_closed c) (scope_kept (stms_closed b)))
   stm_closed (For a c n b) =
-      around_of (scope_kept (around_then (around_then (around_then (option_stm_closed a) (around_of (option_exp_closed c))) (option_stm_closed n)) (around_of (scope_kept (stms_closed b)))))
+      around_of (scope_kept (around_then (around_then (around_then (option_stm_closed a) (around_of (option_exp_closed c))) (around_of (option_step_closed n))) (around_of (scope_kept (stms_closed b)))))
   stm_closed (ForIn k v x b) =
       around_of (scope_kept (around_then (around_then (around_then (option_declares k) (before_around (declares_around v) (around_of (exp_closed x)))) (option_binds k)) (before_around (binds_around v) (around_of (scope_kept (stms_closed b))))))
   stm_closed (Fun w ps b) = around_then (declared_around w) (around_of (scope_kept (around_then (all_declared_around ps) (stms_closed b))))
@@ -235,6 +235,10 @@ mutual
   pub option_stm_closed : (o : OptionStm) → KeepsAround (option_stm_words o)
   option_stm_closed NoneStm = around_of nothing
   option_stm_closed (SomeStm s) = stm_closed s
+
+  pub option_step_closed : (o : OptionStm) → KeepsScopes (option_step_words o)
+  option_step_closed NoneStm = nothing
+  option_step_closed (SomeStm s) = scope_kept (stm_closed s)
 
   pub option_stms_closed : (o : OptionStms) → KeepsScopes (option_stms_words o)
   option_stms_closed NoneStms = nothing

@@ -1,22 +1,19 @@
 -- How many items a tree has.
-use Rattle.std.proofs.Common.{◌≡◌, ℕ, ◌+◌, List, [], ◌∷◌, ◌++◌, length, map, Result, Ok, Err, refl, sym, ap, ◌∙◌, arith, add-zero, zero-add}
+use Rattle.std.proofs.Common.{◌≡◌, ◌+◌, List, [], ◌∷◌, length, Result, Ok, Err, refl, sym, ap, ◌∙◌, arith, add-zero, zero-add}
 use Rattle.std.specs.List.{filter_map}
 use Rattle.std.proofs.lemmas.List.{length-map}
-use Rattle.std.proofs.lemmas.List.Elements.{filter_map-append}
-use Rattle.hog_tree.specs.declared.tree.Named.{Named}
 use Rattle.hog_tree.specs.declared.tree.Tree.{Tree}
 use Rattle.hog_tree.specs.View.{tree_of}
 use Rattle.hog_scope.specs.declared.item.Item.{Item}
-use Rattle.hog_scope.specs.declared.stop.ScopeStop.{ScopeStop}
 use Rattle.hog_scope.specs.Words.{Event, Opens, Closes, Declares, Binds, Reads, Assigns, Calls, Spells, stms_words}
-use Rattle.hog_scope.specs.Places.{tree_names}
-use Rattle.hog_scope.specs.Literals.{named}
-use Rattle.hog_scope.specs.Scopes.{Known, Cause, Fault, start, step, run, onward, items_at, items_of}
+use Rattle.hog_tree.specs.Names.{tree_names}
+use Rattle.hog_scope.specs.Literals.{item_count}
+use Rattle.hog_scope.specs.Scopes.{Known, Cause, Fault, start, step, run, onward, items_at}
 use Rattle.hog_scope.specs.Stops.{located, resolution}
 use Rattle.hog_scope.proofs.Runs.{step_items}
 use Rattle.hog_scope.proofs.NamedWords.{naming, tree_named}
 
-naming_more : (e : Event) (es : List Event) → length (filter_map naming (e ∷ es)) ≡ named e + length (filter_map naming es)
+naming_more : (e : Event) (es : List Event) → length (filter_map naming (e ∷ es)) ≡ item_count e + length (filter_map naming es)
 naming_more Opens es = omega arith
 naming_more Closes es = omega arith
 naming_more (Declares w) es = omega arith

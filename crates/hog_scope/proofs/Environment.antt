@@ -1,6 +1,6 @@
 -- Names are found by environments: the number that a word has is that of the nearest declaration of its name.
-use Rattle.std.proofs.Common.{◌≡◌, ℕ, suc, length, List, [], ◌∷◌, ◌++◌, Bool, true, false, cond, Option, Some, None, Result, Ok, Err, is_some, refl, sym, ap, ap₂, ◌∙◌, subst, true≢false}
-use Rattle.std.specs.Prelude.{bytes_eq, if◌then◌else◌, option_map}
+use Rattle.std.proofs.Common.{◌≡◌, ℕ, length, List, [], ◌∷◌, ◌++◌, Bool, true, false, cond, Option, Some, None, Result, Ok, Err, is_some, refl, sym, ap, ◌∙◌, subst, true≢false}
+use Rattle.std.specs.Prelude.{bytes_eq, option_map}
 use Rattle.std.specs.Cmp.Lexicographic.{bytes_decides}
 use Rattle.std.specs.List.{flat_map}
 use Rattle.std.specs.Map.{lookup}

@@ -1,12 +1,10 @@
 -- The words of each form of expression and statement that holds a list or an option.
-use Rattle.std.proofs.Common.{◌≡◌, ℕ, suc, List, [], ◌∷◌, ◌++◌, length, Option, Some, None, refl, sym, ap, ap₂, ◌∙◌, append_assoc}
+use Rattle.std.proofs.Common.{◌≡◌, ℕ, List, [], ◌∷◌, ◌++◌, length, Option, Some, None, refl, ap, ap₂, ◌∙◌}
 use Rattle.std.specs.List.{flat_map}
 use Rattle.std.specs.declared.boxed.Box.{Box}
 use Rattle.std.specs.declared.alloc.Global.{Global}
 use mathlib.Core.Former.{Count}
-use Rattle.hog_tree.specs.Plain.{Exp}
 use Rattle.hog_tree.specs.declared.tree.Named.{Named}
-use Rattle.hog_tree.specs.declared.tree.Names.{Names}
 use Rattle.hog_tree.specs.declared.tree.Expr as e
 use Rattle.hog_tree.specs.declared.tree.Expr.{Expr, Template', Array', Call', Row_of-Expr, end_of-Expr, items_hidden-the_row-Expr-2, Row_of-Part, end_of-Part, items_hidden-the_row-Part-1}
 use Rattle.hog_tree.specs.declared.tree.Exprs.{Exprs}
@@ -18,9 +16,9 @@ use Rattle.hog_tree.specs.declared.tree.ArrowBody.{ArrowBody}
 use Rattle.hog_tree.specs.declared.tree.Stmt as s
 use Rattle.hog_tree.specs.declared.tree.Stmt.{Stmt, Row_of-Stmt, end_of-Stmt, items_hidden-the_row-Stmt-0, Held-Stmt-If-2, Stmt-If-2-None', Stmt-If-2-Some', Held-Stmt-For-0, Stmt-For-0-None', Held-Stmt-Let-1, Stmt-Let-1-None'}
 use Rattle.hog_tree.specs.View.{words_of, option_word_of, exp_of, stms_of, option_stm_of, option_exp_of}
-use Rattle.hog_scope.specs.Words.{Event, Opens, Closes, Declares, Binds, Assigns, Calls, scope_of, declared, all_declared, declares, binds, callee, target, stms_words, option_stm_words, option_exp_words}
-use Rattle.hog_scope.specs.Places.{option_stm_names, option_exp_names, option_name, exp_names, part_names, body_names, stm_names, stms_names}
-use Rattle.hog_scope.specs.Events.{expr_words, part_words, arrow_words, value_words, value_names, step_words, step_names, else_words, else_names, stmt_words, stmts_words, stmts_names}
+use Rattle.hog_scope.specs.Words.{Event, Declares, Binds, Calls, scope_of, declared, all_declared, declares, binds, callee, target, stms_words, option_stm_words, option_step_words, option_exp_words}
+use Rattle.hog_tree.specs.Names.{option_stm_names, option_exp_names, option_name, exp_names, part_names, body_names, stm_names, stms_names}
+use Rattle.hog_scope.specs.Events.{expr_words, part_words, arrow_words, value_words, value_names, start_words, step_words, boxed_names, else_words, else_names, stmt_words, stmts_words, stmts_names}
 use Rattle.hog_scope.proofs.Rows.{exps_rows, exps_named, count_rows, parts_rows, parts_named, stms_rows, stms_named}
 
 -- the row in which each form keeps its list
@@ -116,35 +114,35 @@ step_held (s.For' _ _ n _ _) = n
 step_held _ = Stmt-For-0-None'
 
 module _ (a : Option (Box Stmt Global)) (c : Option Expr) (n : Option (Box Stmt Global)) (b : Stmts) where
-  start_words : option_stm_words (option_stm_of (start_held (s.For a c n b))) ≡ step_words a
-  start_words = elim a as (λ x. option_stm_words (option_stm_of (start_held (s.For x c n b))) ≡ step_words x) [ None ↦ refl | Some _ ↦ refl ]
+  start_is : option_stm_words (option_stm_of (start_held (s.For a c n b))) ≡ start_words a
+  start_is = elim a as (λ x. option_stm_words (option_stm_of (start_held (s.For x c n b))) ≡ start_words x) [ None ↦ refl | Some _ ↦ refl ]
 
   cond_words : option_exp_words (option_exp_of (cond_held (s.For a c n b))) ≡ value_words c
   cond_words = elim c as (λ x. option_exp_words (option_exp_of (cond_held (s.For a x n b))) ≡ value_words x) [ None ↦ refl | Some _ ↦ refl ]
 
-  step_is : option_stm_words (option_stm_of (step_held (s.For a c n b))) ≡ step_words n
-  step_is = elim n as (λ x. option_stm_words (option_stm_of (step_held (s.For a c x b))) ≡ step_words x) [ None ↦ refl | Some _ ↦ refl ]
+  step_is : option_step_words (option_stm_of (step_held (s.For a c n b))) ≡ step_words n
+  step_is = elim n as (λ x. option_step_words (option_stm_of (step_held (s.For a c x b))) ≡ step_words x) [ None ↦ refl | Some _ ↦ refl ]
 
   for_body : stms_words (stms_of {m = (stms_row (s.For a c n b)).0} (stms_row (s.For a c n b)).1) ≡ stmts_words b
   for_body = let r = stms_row (s.For a c n b) in stms_rows {m = r.0} r.1 ∙ ap (flat_map stmt_words) (items_hidden-the_row-Stmt-0 b.list)
 
-  pub for_words : stmt_words (s.For a c n b) ≡ scope_of (step_words a ++ value_words c ++ step_words n ++ scope_of (stmts_words b))
+  pub for_words : stmt_words (s.For a c n b) ≡ scope_of (start_words a ++ value_words c ++ step_words n ++ scope_of (stmts_words b))
   for_words =
-      let e1 = start_words in let e2 = cond_words in let e3 = step_is in let e4 = for_body in cc
+      let e1 = start_is in let e2 = cond_words in let e3 = step_is in let e4 = for_body in cc
 
-  start_names : option_stm_names (start_held (s.For a c n b)) ≡ step_names a
-  start_names = elim a as (λ x. option_stm_names (start_held (s.For x c n b)) ≡ step_names x) [ None ↦ refl | Some _ ↦ refl ]
+  start_names : option_stm_names (start_held (s.For a c n b)) ≡ boxed_names a
+  start_names = elim a as (λ x. option_stm_names (start_held (s.For x c n b)) ≡ boxed_names x) [ None ↦ refl | Some _ ↦ refl ]
 
   cond_names : option_exp_names (cond_held (s.For a c n b)) ≡ value_names c
   cond_names = elim c as (λ x. option_exp_names (cond_held (s.For a x n b)) ≡ value_names x) [ None ↦ refl | Some _ ↦ refl ]
 
-  step_named : option_stm_names (step_held (s.For a c n b)) ≡ step_names n
-  step_named = elim n as (λ x. option_stm_names (step_held (s.For a c x b)) ≡ step_names x) [ None ↦ refl | Some _ ↦ refl ]
+  step_named : option_stm_names (step_held (s.For a c n b)) ≡ boxed_names n
+  step_named = elim n as (λ x. option_stm_names (step_held (s.For a c x b)) ≡ boxed_names x) [ None ↦ refl | Some _ ↦ refl ]
 
   for_body_names : stms_names {m = (stms_row (s.For a c n b)).0} (stms_row (s.For a c n b)).1 ≡ stmts_names b
   for_body_names = let r = stms_row (s.For a c n b) in stms_named {m = r.0} r.1 ∙ ap (flat_map stm_names) (items_hidden-the_row-Stmt-0 b.list)
 
-  pub for_names : stm_names (s.For a c n b) ≡ step_names a ++ value_names c ++ step_names n ++ stmts_names b
+  pub for_names : stm_names (s.For a c n b) ≡ boxed_names a ++ value_names c ++ boxed_names n ++ stmts_names b
   for_names =
       let e1 = start_names in let e2 = cond_names in let e3 = step_named in let e4 = for_body_names in cc
 

@@ -1,5 +1,5 @@
 -- The literal texts of events, one after another.
-use Rattle.std.proofs.Common.{◌≡◌, ℕ, zero, suc, ◌+◌, ◌<◌, ◌≤◌, zero-add, suc-add, List, [], ◌∷◌, ◌++◌, length, take, drop, get_or, map, fold, Option, Some, None, refl, sym, ap, ap₂, ◌∙◌, append_assoc, append-nil, arith}
+use Rattle.std.proofs.Common.{◌≡◌, ℕ, zero, suc, ◌+◌, ◌<◌, ◌≤◌, zero-add, suc-add, List, [], ◌∷◌, ◌++◌, length, take, drop, get_or, map, Option, Some, None, refl, sym, ap, ◌∙◌, append_assoc, append-nil, arith}
 use Rattle.std.specs.Prelude.{slice_get, option_to_list, sum_by}
 use Rattle.std.specs.Option.{option_copied}
 use Rattle.std.specs.Slice.{IsGetResult}
@@ -17,7 +17,7 @@ use Rattle.hog_scope.specs.declared.item.Item.{Item}
 use Rattle.hog_scope.specs.declared.words.Event as e
 use Rattle.hog_scope.specs.Words.{Event, Opens, Closes, Declares, Binds, Reads, Assigns, Calls, Spells}
 use Rattle.hog_scope.specs.Events.{event_of}
-use Rattle.hog_scope.specs.Literals.{named, text_of, texts_of, in_byte_order}
+use Rattle.hog_scope.specs.Literals.{item_count, text_of, texts_of, in_byte_order}
 
 drop-nil : {A : Type 0} (n : ℕ) → drop n (let xs : List A = [] in xs) ≡ []
 drop-nil zero = refl
@@ -35,25 +35,25 @@ item_got xs i (Some x) h = ap Some h.1 ∙ sym (slice_get-get_or xs i x.now h.3.
 
 -- one more event
 pub texts-more : (es : List Event) (x : Event) (items : List Item)
-    → texts_of (es ++ x ∷ []) items ≡ texts_of es items ++ option_to_list (text_of x (slice_get items (sum_by named es)))
+    → texts_of (es ++ x ∷ []) items ≡ texts_of es items ++ option_to_list (text_of x (slice_get items (sum_by item_count es)))
 texts-more [] x items = append-nil _
 texts-more (y ∷ es) x items =
     let first = option_to_list (text_of y (slice_get items 0)) in
-    let here : slice_get (drop (named y) items) (sum_by named es) ≡ slice_get items (sum_by named (y ∷ es)) =
-    slice_get-drop (named y) (sum_by named es) items ∙ ap (slice_get items) (sym (sum_by-cons named y es)) in
-    ap (λ r. first ++ r) (texts-more es x (drop (named y) items) ∙ ap (λ i. texts_of es (drop (named y) items) ++ option_to_list (text_of x i)) here)
-    ∙ sym (append_assoc first (texts_of es (drop (named y) items)) (option_to_list (text_of x (slice_get items (sum_by named (y ∷ es))))))
+    let here : slice_get (drop (item_count y) items) (sum_by item_count es) ≡ slice_get items (sum_by item_count (y ∷ es)) =
+    slice_get-drop (item_count y) (sum_by item_count es) items ∙ ap (slice_get items) (sym (sum_by-cons item_count y es)) in
+    ap (λ r. first ++ r) (texts-more es x (drop (item_count y) items) ∙ ap (λ i. texts_of es (drop (item_count y) items) ++ option_to_list (text_of x i)) here)
+    ∙ sym (append_assoc first (texts_of es (drop (item_count y) items)) (option_to_list (text_of x (slice_get items (sum_by item_count (y ∷ es))))))
 
 -- no event has more than one item
-pub named-le : (x : Event) → named x ≤ 1
-named-le Opens = omega arith
-named-le Closes = omega arith
-named-le (Declares w) = omega arith
-named-le (Binds w) = omega arith
-named-le (Reads w) = omega arith
-named-le (Assigns w) = omega arith
-named-le (Calls w n) = omega arith
-named-le (Spells t) = omega arith
+pub item_count-le : (x : Event) → item_count x ≤ 1
+item_count-le Opens = omega arith
+item_count-le Closes = omega arith
+item_count-le (Declares w) = omega arith
+item_count-le (Binds w) = omega arith
+item_count-le (Reads w) = omega arith
+item_count-le (Assigns w) = omega arith
+item_count-le (Calls w n) = omega arith
+item_count-le (Spells t) = omega arith
 
 -- one more text, or none
 pub in_byte_order-none : (ts : List Word) → in_byte_order (ts ++ []) ≡ in_byte_order ts
@@ -76,13 +76,13 @@ insert-shown (x ∷ ks) k = by (slice_cmp nat_cmp k.now x.now) (insert-shown ks 
 
 -- one more event of a list, after the first i
 module _ (xs : List e.Event) (i : ℕ) (x : e.Event) (lt : i < length xs) (is : x ≡ get_or xs i x) (items : List Item) (next : ℕ)
-    (counted : next ≡ sum_by named (map event_of (take i xs))) where
+    (counted : next ≡ sum_by item_count (map event_of (take i xs))) where
   taken : map event_of (take (i + 1) xs) ≡ map event_of (take i xs) ++ event_of x ∷ []
   taken = ap (map event_of) (take_more xs i x lt ∙ ap (λ y. take i xs ++ y ∷ []) (sym is)) ∙ map-append event_of (take i xs) (x ∷ [])
 
-  pub counted_more : next + named (event_of x) ≡ sum_by named (map event_of (take (i + 1) xs))
+  pub counted_more : next + item_count (event_of x) ≡ sum_by item_count (map event_of (take (i + 1) xs))
   counted_more =
-      ap (λ n. n + named (event_of x)) counted ∙ sym (sum_by_push named (map event_of (take i xs)) (event_of x)) ∙ ap (sum_by named) (sym taken)
+      ap (λ n. n + item_count (event_of x)) counted ∙ sym (sum_by_push item_count (map event_of (take i xs)) (event_of x)) ∙ ap (sum_by item_count) (sym taken)
 
   -- the literal texts so far, and that of the event
   texts_taken : texts_of (map event_of (take (i + 1) xs)) items

@@ -11,7 +11,6 @@ use Rattle.hog_tree.specs.declared.tree.Expr.{Expr, Int, Bool, Null, Template', 
 use Rattle.hog_tree.specs.declared.tree.Part as t
 use Rattle.hog_tree.specs.declared.tree.Part.{Part}
 use Rattle.hog_tree.specs.declared.tree.Parts.{Row_of-Part, end_of-Part, more_of-Part}
-use Rattle.hog_tree.specs.declared.tree.DictItem.{DictItem}
 use Rattle.hog_tree.specs.declared.tree.ArrowBody.TheBlock.{struct-DictItems}
 use Rattle.hog_tree.specs.declared.tree.DictItems.{DictItems, Row_of-DictItem, end_of-DictItem, more_of-DictItem}
 use Rattle.hog_tree.specs.declared.tree.ArrowBody as a
@@ -19,9 +18,9 @@ use Rattle.hog_tree.specs.declared.tree.ArrowBody.{ArrowBody, One'}
 use Rattle.hog_tree.specs.declared.tree.Stmt as s
 use Rattle.hog_tree.specs.declared.tree.Stmt.{Stmt, Row_of-Stmt, end_of-Stmt, more_of-Stmt, Held-Stmt-Let-1, Stmt-Let-1-None', Stmt-Let-1-Some', Held-Stmt-If-2, Stmt-If-2-None', Stmt-If-2-Some', Held-Stmt-For-0, Stmt-For-0-None', Stmt-For-0-Some'}
 use Rattle.hog_tree.specs.declared.tree.Tree.{Tree}
-use Rattle.hog_tree.specs.View.{words_of, option_word_of, exp_of, exps_of, part_of, parts_of, dict_of, pairs_of, body_of, stm_of, stms_of, stms_from, option_exp_of, option_stm_of, option_stms_of, tree_of}
-use Rattle.hog_scope.specs.Words.{Event, Opens, Closes, Declares, Binds, Reads, Assigns, Calls, Spells, scope_of, declared, all_declared, declares, binds, count_of, callee, target, exp_words, exps_words, parts_words, pairs_words, body_words, stm_words, stms_words, option_exp_words, option_stm_words, option_stms_words}
-use Rattle.hog_scope.specs.Places.{option_name, exp_names, exps_names, part_names, parts_names, dict_names, pairs_names, body_names, stm_names, stms_names, option_exp_names, option_stm_names, option_stms_names, tree_names}
+use Rattle.hog_tree.specs.View.{words_of, option_word_of, exp_of, exps_of, parts_of, dict_of, pairs_of, body_of, stm_of, stms_of, stms_from, option_exp_of, option_stm_of, option_stms_of, tree_of}
+use Rattle.hog_scope.specs.Words.{Event, Opens, Closes, Declares, Binds, Reads, Assigns, Calls, Spells, scope_of, all_declared, declares, binds, count_of, callee, target, exp_words, exps_words, parts_words, pairs_words, body_words, stm_words, stms_words, option_exp_words, option_stm_words, option_step_words, option_stms_words}
+use Rattle.hog_tree.specs.Names.{option_name, exp_names, exps_names, parts_names, dict_names, pairs_names, body_names, stm_names, stms_names, option_exp_names, option_stm_names, option_stms_names, tree_names}
 
 -- the word of an event that names something
 abbrev pub naming : Event → Option Word
@@ -164,7 +163,7 @@ mutual
   stm_named (s.Throw x) = exp_named x
   stm_named (s.If' c m b o) = both (both (exp_named c) (scoped (stms_named b))) (option_stms_named o)
   stm_named (s.While' c m b) = both (exp_named c) (scoped (stms_named b))
-  stm_named (s.For' b c n m ss) = scoped (both (both (both (option_stm_named b) (option_exp_named c)) (option_stm_named n)) (scoped (stms_named ss)))
+  stm_named (s.For' b c n m ss) = scoped (both (both (both (option_stm_named b) (option_exp_named c)) (option_step_named n)) (scoped (stms_named ss)))
   stm_named (s.ForIn' k v x m b) =
       scoped (both (after (binds (option_word_of k)) (option_binds k) (both (option_declares k) (first v (exp_named x)))) (quiet (Binds v.word) refl (scoped (stms_named b))))
   stm_named (s.Fun' n ps m b) = first n (quiet (Binds n.word) refl (scoped (both (params ps) (stms_named b))))
@@ -182,6 +181,10 @@ mutual
   option_stm_named : (o : Held-Stmt-For-0) → Names (option_stm_names o) (option_stm_words (option_stm_of o))
   option_stm_named Stmt-For-0-None' = none
   option_stm_named (Stmt-For-0-Some' q x) = stm_named x
+
+  option_step_named : (o : Held-Stmt-For-0) → Names (option_stm_names o) (option_step_words (option_stm_of o))
+  option_step_named Stmt-For-0-None' = none
+  option_step_named (Stmt-For-0-Some' q x) = scoped (stm_named x)
 
   option_stms_named : (o : Held-Stmt-If-2) → Names (option_stms_names o) (option_stms_words (option_stms_of o))
   option_stms_named Stmt-If-2-None' = none

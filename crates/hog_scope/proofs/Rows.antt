@@ -1,22 +1,17 @@
 -- Lists of a tree, as loops go over them.
-use Rattle.std.proofs.Common.{◌≡◌, suc, length, List, [], ◌∷◌, ◌++◌, Option, Some, None, refl, sym, ap, ◌∙◌, append_assoc}
+use Rattle.std.proofs.Common.{◌≡◌, suc, length, List, [], ◌∷◌, ◌++◌, refl, sym, ap, ◌∙◌}
 use Rattle.std.specs.List.{flat_map}
-use mathlib.Core.Former.{Count}
 use Rattle.hog_tree.specs.declared.tree.Named.{Named}
-use Rattle.hog_tree.specs.declared.tree.Expr as e
-use Rattle.hog_tree.specs.declared.tree.Expr.{Expr, Template', Array', Call', Row_of-Expr, end_of-Expr, more_of-Expr, items-the_row-Expr, items_hidden-the_row-Expr-2}
-use Rattle.hog_tree.specs.declared.tree.Exprs.{Exprs}
+use Rattle.hog_tree.specs.declared.tree.Expr.{Row_of-Expr, end_of-Expr, more_of-Expr, items-the_row-Expr}
 use Rattle.hog_tree.specs.declared.tree.Part as t
 use Rattle.hog_tree.specs.declared.tree.Part.{Part}
-use Rattle.hog_tree.specs.declared.tree.Parts.{Parts, Row_of-Part, end_of-Part, more_of-Part, items-the_row-Part, items_hidden-the_row-Part-1}
+use Rattle.hog_tree.specs.declared.tree.Parts.{Row_of-Part, end_of-Part, more_of-Part, items-the_row-Part}
 use Rattle.hog_tree.specs.declared.tree.ArrowBody.TheBlock.{struct-DictItems}
-use Rattle.hog_tree.specs.declared.tree.DictItem.{DictItem}
-use Rattle.hog_tree.specs.declared.tree.DictItems.{DictItems, out-DictItems, Row_of-DictItem, end_of-DictItem, more_of-DictItem, items-the_row-DictItem, items_shown-the_row-DictItem-3, items_hidden-the_row-DictItem-3}
-use Rattle.hog_tree.specs.declared.tree.Stmt as s
-use Rattle.hog_tree.specs.declared.tree.Stmt.{Stmt, Row_of-Stmt, end_of-Stmt, more_of-Stmt, items-the_row-Stmt, items_hidden-the_row-Stmt-0}
-use Rattle.hog_tree.specs.View.{words_of, exp_of, exps_of, parts_of, pairs_of, stms_of, dict_of}
-use Rattle.hog_scope.specs.Words.{count_of, all_declared, declared, exp_words, exps_words, parts_words, pairs_words, stms_words}
-use Rattle.hog_scope.specs.Places.{exp_names, exps_names, part_names, parts_names, pairs_names, dict_names, stm_names, stms_names}
+use Rattle.hog_tree.specs.declared.tree.DictItems.{DictItems, out-DictItems, Row_of-DictItem, end_of-DictItem, more_of-DictItem, items-the_row-DictItem, items_shown-the_row-DictItem-3}
+use Rattle.hog_tree.specs.declared.tree.Stmt.{Row_of-Stmt, end_of-Stmt, more_of-Stmt, items-the_row-Stmt}
+use Rattle.hog_tree.specs.View.{words_of, exps_of, parts_of, pairs_of, stms_of, dict_of}
+use Rattle.hog_scope.specs.Words.{count_of, all_declared, declared, exps_words, parts_words, pairs_words, stms_words}
+use Rattle.hog_tree.specs.Names.{exp_names, exps_names, part_names, parts_names, pairs_names, dict_names, stm_names, stms_names}
 use Rattle.hog_scope.specs.Events.{expr_words, part_words, item_words, item_names, stmt_words}
 
 pub all_declared-append : (xs ys : List Named) → all_declared (words_of (xs ++ ys)) ≡ all_declared (words_of xs) ++ all_declared (words_of ys)

@@ -1,10 +1,9 @@
 -- Events one after another.
-use Rattle.std.proofs.Common.{◌≡◌, ℕ, suc, ◌+◌, ◌<◌, List, [], ◌∷◌, ◌++◌, length, take, drop, get_or, map, Bool, true, false, cond, Option, Some, None, Result, Ok, Err, is_some, refl, sym, ap, ◌∙◌, subst, arith, length-append, append_assoc, add-zero}
+use Rattle.std.proofs.Common.{◌≡◌, ℕ, ◌+◌, ◌<◌, List, [], ◌∷◌, ◌++◌, length, take, get_or, map, Bool, true, false, cond, Some, Result, Ok, Err, is_some, refl, sym, ap, ◌∙◌, arith, length-append, add-zero}
 use Rattle.std.specs.Prelude.{slice_get}
 use Rattle.std.specs.List.{filter_map, flat_map}
 use Rattle.std.proofs.lemmas.List.{map-append, take_more}
 use Rattle.std.proofs.lemmas.List.Elements.{filter_map-append}
-use Rattle.std.proofs.Math.Seq.{drop-cons}
 use Rattle.hog_value.specs.Natives.{native_named}
 use Rattle.hog_tree.specs.declared.tree.Named.{Named}
 use Rattle.hog_tree.specs.declared.tree.Stmt.{Stmt}
@@ -15,9 +14,9 @@ use Rattle.hog_scope.specs.declared.item.Item.TheVariants as item
 use Rattle.hog_scope.specs.declared.words.Event as e
 use Rattle.hog_scope.specs.declared.words.Event.TheVariants as r
 use Rattle.hog_scope.specs.Words.{Event, Opens, Closes, Declares, Binds, Reads, Assigns, Calls, Spells, stms_words}
-use Rattle.hog_scope.specs.Literals.{named}
+use Rattle.hog_scope.specs.Literals.{item_count}
 use Rattle.hog_scope.specs.Events.{event_of, name_in, stmt_words}
-use Rattle.hog_scope.specs.Scopes.{AlreadyDeclared, Scope, opened, closed, with_seen, with_name, read_item, Known, Cause, Fault, step, run, onward, with_item, variable_in, seen_at, assigned_item, called_item}
+use Rattle.hog_scope.specs.Scopes.{AlreadyDeclared, Scope, opened, closed, with_seen, with_name, read_item, Known, Cause, step, run, onward, with_item, variable_in, seen_at, assigned_item, called_item}
 
 pub stms_listed : (ss : List Stmt) → stms_words (stms_from ss) ≡ flat_map stmt_words ss
 stms_listed [] = refl
@@ -60,7 +59,7 @@ declared_length w k true m h = cc
 declared_length w k false m h = sym (ap length (items_are (with_name k w) m refl h)) ∙ length-append k.items (item.Declared k.declared ∷ [])
 
 -- each of them has an item
-pub step_items : (x : Event) (k m : Known) → step x k ≡ Ok m → length m.items ≡ length k.items + named x
+pub step_items : (x : Event) (k m : Known) → step x k ≡ Ok m → length m.items ≡ length k.items + item_count x
 step_items Opens k m h = sym (ap length (items_are (opened k) m refl h)) ∙ sym (add-zero (length k.items))
 step_items Closes k m h = sym (ap length (sym (closed_items k k.around) ∙ items_are (closed k k.around) m refl h)) ∙ sym (add-zero (length k.items))
 step_items (Declares w) k m h = declared_length w k (is_some (variable_in k.scope w)) m h
@@ -82,7 +81,7 @@ fault_named (r.Calls n count) k cause h = (n.now, refl)
 fault_named (r.Spells t) k cause h = absurd cc
 
 -- the words that name something, counted
-pub named_length : (x : e.Event) → length (filter_map name_in (x ∷ [])) ≡ named (event_of x)
+pub named_length : (x : e.Event) → length (filter_map name_in (x ∷ [])) ≡ item_count (event_of x)
 named_length r.Opens = refl
 named_length r.Closes = refl
 named_length (r.Declares n) = refl

@@ -17,7 +17,7 @@ use Rattle.hog_tree.specs.View.{exp_of, stm_of, body_of}
 use Rattle.hog_scope.specs.declared.words.Event as e
 use Rattle.hog_scope.specs.declared.words.Event.TheVariants as r
 use Rattle.hog_scope.specs.Words.{Event, Opens, Closes, Declares, Binds, Reads, Assigns, Calls, Spells, exp_words, body_words, stm_words, scope_of}
-use Rattle.hog_scope.specs.Places.{exp_names, part_names, stm_names}
+use Rattle.hog_tree.specs.Names.{exp_names, part_names, stm_names}
 
 abbrev pub event_of : e.Event → Event
 event_of r.Opens = Opens
@@ -41,7 +41,7 @@ name_in (r.Calls n count) = Some n.now
 name_in (r.Spells t) = None
 
 -- the events of `new` are those of `old` and then these, with these words that name something
-pub record Adds (old new : Vec e.Event Global) (words : List Event) (names : List Named) : Type 0 where
+pub record AddsEvents (old new : Vec e.Event Global) (words : List Event) (names : List Named) : Type 0 where
   pub words_added : map event_of new.items ≡ map event_of old.items ++ words
   pub names_added : filter_map name_in new.items ≡ filter_map name_in old.items ++ names
 
@@ -91,13 +91,18 @@ stmts_words ss = flat_map stmt_words ss.list.items
 abbrev pub stmts_names : Stmts → List Named
 stmts_names ss = flat_map stm_names ss.list.items
 
+-- the start and the step of a `for`
+abbrev pub start_words : Option (Box Stmt Global) → List Event
+start_words None = []
+start_words (Some s) = stmt_words s.value
+
 abbrev pub step_words : Option (Box Stmt Global) → List Event
 step_words None = []
-step_words (Some s) = stmt_words s.value
+step_words (Some s) = scope_of (stmt_words s.value)
 
-abbrev pub step_names : Option (Box Stmt Global) → List Named
-step_names None = []
-step_names (Some s) = stm_names s.value
+abbrev pub boxed_names : Option (Box Stmt Global) → List Named
+boxed_names None = []
+boxed_names (Some s) = stm_names s.value
 
 abbrev pub else_words : Option Stmts → List Event
 else_words None = []

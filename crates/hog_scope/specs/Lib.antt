@@ -1,5 +1,4 @@
 pub mod Words
-pub mod Places
 pub mod Scopes
 pub mod Events
 pub mod Stops

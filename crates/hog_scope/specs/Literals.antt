@@ -3,22 +3,21 @@ use Rattle.std.specs.Prelude.{ℕ, List, [], ◌∷◌, ◌++◌, Option, None, 
 use Rattle.std.specs.Ordering.{nat_cmp}
 use Rattle.std.specs.Cmp.Lexicographic.{slice_cmp}
 use Rattle.std.specs.BTreeSet.{insert_key}
-use Rattle.hog_value.specs.declared.native.Native.{Native}
 use Rattle.hog_tree.specs.Plain.{Word, Stms}
 use Rattle.hog_scope.specs.declared.item.Item.{Item}
 use Rattle.hog_scope.specs.declared.item.Item.TheVariants as item
 use Rattle.hog_scope.specs.Words.{Event, Opens, Closes, Declares, Binds, Reads, Assigns, Calls, Spells, stms_words}
 
 -- how many words of one event name something, so have an item
-abbrev pub named : Event → ℕ
-named Opens = 0
-named Closes = 0
-named (Declares w) = 1
-named (Binds w) = 0
-named (Reads w) = 1
-named (Assigns w) = 1
-named (Calls w n) = 1
-named (Spells t) = 0
+abbrev pub item_count : Event → ℕ
+item_count Opens = 0
+item_count Closes = 0
+item_count (Declares w) = 1
+item_count (Binds w) = 0
+item_count (Reads w) = 1
+item_count (Assigns w) = 1
+item_count (Calls w n) = 1
+item_count (Spells t) = 0
 
 -- a word that is read is a literal text where it names a global
 abbrev pub global_text : Word → Option Item → Option Word
@@ -41,7 +40,7 @@ text_of (Spells t) i = Some t
 -- the literal texts of these events in their order; the items are those of their words
 abbrev pub texts_of : List Event → List Item → List Word
 texts_of [] items = []
-texts_of (e ∷ es) items = option_to_list (text_of e (slice_get items 0)) ++ texts_of es (drop (named e) items)
+texts_of (e ∷ es) items = option_to_list (text_of e (slice_get items 0)) ++ texts_of es (drop (item_count e) items)
 
 -- the distinct texts in byte order
 abbrev pub in_byte_order : List Word → List Word

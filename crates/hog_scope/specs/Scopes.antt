@@ -1,5 +1,5 @@
 -- The scope rules: what each word of a program names, or the first fault.
-use Rattle.std.specs.Prelude.{ℕ, suc, List, [], ◌∷◌, ◌++◌, length, Bool, true, false, Option, None, Some, Result, Ok, Err, bytes_eq, if◌then◌else◌, is_some}
+use Rattle.std.specs.Prelude.{ℕ, suc, List, [], ◌∷◌, ◌++◌, length, true, false, Option, None, Some, Result, Ok, Err, bytes_eq, if◌then◌else◌, is_some}
 use Rattle.std.specs.Map.{lookup}
 use Rattle.hog_value.specs.declared.native.Native.{Native}
 use Rattle.hog_value.specs.Natives.{native_named, takes_of}

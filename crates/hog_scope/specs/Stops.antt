@@ -1,13 +1,13 @@
 -- Refusals, with their places in the text.
-use Rattle.std.specs.Prelude.{◌≡◌, ℕ, List, [], ◌∷◌, map, Option, None, Some, unwrap_or, slice_get, Result, Ok, Err}
+use Rattle.std.specs.Prelude.{◌≡◌, ℕ, List, Option, None, Some, slice_get, Result, Ok, Err}
 use Rattle.hog_tree.specs.declared.tree.Named.{Named}
 use Rattle.hog_tree.specs.declared.tree.Tree.{Tree}
 use Rattle.hog_tree.specs.View.{tree_of}
 use Rattle.hog_scope.specs.declared.item.Item.{Item}
 use Rattle.hog_scope.specs.declared.stop.ScopeStop.{ScopeStop}
 use Rattle.hog_scope.specs.declared.stop.ScopeStop.TheVariants as stop
-use Rattle.hog_scope.specs.Places.{tree_names}
-use Rattle.hog_scope.specs.Scopes.{Cause, AlreadyDeclared, AssignsUnknown, UnknownFunction, WrongCount, Known, Fault, items_of}
+use Rattle.hog_tree.specs.Names.{tree_names}
+use Rattle.hog_scope.specs.Scopes.{Cause, AlreadyDeclared, AssignsUnknown, UnknownFunction, WrongCount, Fault, items_of}
 
 -- the refusal for what is wrong with the word at a place
 abbrev pub stop_at : Cause → ℕ → ScopeStop
@@ -17,14 +17,14 @@ stop_at UnknownFunction at = stop.UnknownFunction at
 stop_at WrongCount at = stop.WrongCount at
 
 -- the place of a word, where there is one
-abbrev pub place_of : Option Named → ℕ
-place_of None = 0
-place_of (Some n) = n.at
+abbrev pub place_of_name : Option Named → ℕ
+place_of_name None = 0
+place_of_name (Some n) = n.at
 
 -- what each word of a tree names that names something, or the refusal of the first fault, in these words
 abbrev pub located : List Named → Result (List Item) Fault → Result (List Item) ScopeStop
 located names (Ok items) = Ok items
-located names (Err fault) = Err (stop_at fault.cause (place_of (slice_get names fault.word)))
+located names (Err fault) = Err (stop_at fault.cause (place_of_name (slice_get names fault.word)))
 
 -- what each word of a tree names that names something, in the order of the source, or the refusal of the first fault
 abbrev pub resolution : Tree → Result (List Item) ScopeStop

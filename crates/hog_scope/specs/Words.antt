@@ -97,7 +97,7 @@ abbrev mutual
   body_words (ManyStms ss) = stms_words ss
 
   -- a `let` is seen after its value, a `fun` from its name on; the names of a `for .. in` aren't seen in its
-  -- expression; the bodies of `for`, `for .. in` and `catch` are scopes of their own
+  -- expression; the step of a `for` and the bodies of `for`, `for .. in` and `catch` are scopes of their own
   pub stm_words : Stm → List Event
   stm_words (Let w x) = Declares w ∷ (option_exp_words x ++ Binds w ∷ [])
   stm_words (Assign x y) = target x (exp_words x) ++ exp_words y
@@ -107,7 +107,7 @@ abbrev mutual
   stm_words (If c b o) = exp_words c ++ scope_of (stms_words b) ++ option_stms_words o
   stm_words (While c b) = exp_words c ++ scope_of (stms_words b)
   stm_words (For a c n b) =
-      scope_of (option_stm_words a ++ option_exp_words c ++ option_stm_words n ++ scope_of (stms_words b))
+      scope_of (option_stm_words a ++ option_exp_words c ++ option_step_words n ++ scope_of (stms_words b))
   stm_words (ForIn k v x b) =
       scope_of (declares k ++ Declares v ∷ exp_words x ++ binds k ++ Binds v ∷ scope_of (stms_words b))
   stm_words (Fun w ps b) = declared w ++ scope_of (all_declared ps ++ stms_words b)
@@ -125,6 +125,11 @@ abbrev mutual
   pub option_stm_words : OptionStm → List Event
   option_stm_words NoneStm = []
   option_stm_words (SomeStm s) = stm_words s
+
+  -- a step
+  pub option_step_words : OptionStm → List Event
+  option_step_words NoneStm = []
+  option_step_words (SomeStm s) = scope_of (stm_words s)
 
   -- an `else`
   pub option_stms_words : OptionStms → List Event

@@ -5,7 +5,7 @@ ghost use Rattle.hog_value.specs.Natives.{native_named};
 ghost use Rattle.hog_scope.specs.Scopes.{start, nearest, seen_at, read_item, assigned_item, called_item, opened, closed, step};
 ghost use Rattle.hog_scope.specs.Words.{Declares, Binds};
 ghost use Rattle.hog_scope.specs.Events.{event_of, name_in};
-ghost use Rattle.hog_scope.specs.Stops.{IsStop, IsAnswer, place_of};
+ghost use Rattle.hog_scope.specs.Stops.{IsStop, IsAnswer, place_of_name};
 
 use crate::item::Item;
 use crate::scope::Scope;
@@ -156,7 +156,7 @@ impl<'t> Resolver<'t> {
     pub fn step(&mut self, event: Event<'t>) -> Result<(), ScopeStop>
         ensures ok { OnOk result (step (event_of event.entry) self.old ≡ Ok self.new) }
         ensures stop { IfErr result (λ e.
-            IsStop e (place_of (name_in event.entry)) (step (event_of event.entry) self.old)) }
+            IsStop e (place_of_name (name_in event.entry)) (step (event_of event.entry) self.old)) }
     {
         match event {
             Event::Opens => Ok(self.opens()?),

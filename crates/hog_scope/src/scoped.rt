@@ -2,7 +2,7 @@
 
 ghost use Rattle.std.specs.Prelude.{◌≡◌, ◌≢◌, Ok, Err, IfOk, length};
 ghost use Rattle.hog_scope.specs.declared.stop.ScopeStop.{ScopeStop as Stop};
-ghost use Rattle.hog_scope.specs.Places.{tree_names};
+ghost use Rattle.hog_tree.specs.Names.{tree_names};
 ghost use Rattle.hog_scope.specs.Stops.{resolution};
 
 use crate::item::Item;

@@ -4,7 +4,7 @@ ghost use Rattle.std.specs.Prelude.{◌≡◌, List, ℕ, map, IfOk};
 ghost use Rattle.std.specs.Option.{option_copied};
 ghost use Rattle.hog_tree.specs.View.{tree_of};
 ghost use Rattle.hog_scope.specs.Events.{event_of};
-ghost use Rattle.hog_scope.specs.Literals.{named, text_of, literals_of};
+ghost use Rattle.hog_scope.specs.Literals.{item_count, text_of, literals_of};
 
 use crate::item::Item;
 use crate::scoped::Scoped;
@@ -26,8 +26,8 @@ fn text_of<'t>(event: Event<'t>, item: Option<Item>) -> Option<&'t HogText>
 }
 
 // How many words of an event name something.
-fn named(event: Event) -> usize
-    ensures { result ≡ named (event_of event.entry) }
+fn item_count(event: Event) -> usize
+    ensures { result ≡ item_count (event_of event.entry) }
 {
     match event {
         Event::Declares(_) | Event::Reads(_) | Event::Assigns(_) | Event::Calls(_, _) => 1,
@@ -46,7 +46,7 @@ fn literal_set<'t>(alloc: Global, s: &Scoped<'t>) -> Result<BTreeSet<&'t str>, A
         if let Some(text) = text_of(*event, items.get(next).copied()) {
             texts.insert(text.as_str())?;
         }
-        next += named(*event);
+        next += item_count(*event);
     }
     Ok(texts)
 }

@@ -4,8 +4,8 @@ ghost use Rattle.std.specs.Prelude.{◌≡◌, ◌∷◌, [], map, option_to_lis
 ghost use Rattle.std.specs.List.{filter_map};
 ghost use Rattle.hog_tree.specs.View.{tree_of, words_of, option_word_of, dict_of};
 ghost use Rattle.hog_scope.specs.Words.{stms_words, pairs_words, scope_of, declared, all_declared, declares, binds};
-ghost use Rattle.hog_scope.specs.Places.{tree_names, dict_names, option_name, body_names, exp_names, stm_names};
-ghost use Rattle.hog_scope.specs.Events.{event_of, name_in, Adds, expr_words, exprs_words, exprs_names, template_words, template_names, arrow_words, value_words, value_names, stmt_words, stmts_words, stmts_names, step_words, step_names};
+ghost use Rattle.hog_tree.specs.Names.{tree_names, dict_names, option_name, body_names, exp_names, stm_names};
+ghost use Rattle.hog_scope.specs.Events.{event_of, name_in, AddsEvents, expr_words, exprs_words, exprs_names, template_words, template_names, arrow_words, value_words, value_names, stmt_words, stmts_words, stmts_names, start_words, step_words, boxed_names};
 
 use hog_tree::tree::{
     ArrowBody, DictItems, Expr, Exprs, Named, Names, Part, Parts, Stmt, Stmts, Tree,
@@ -35,7 +35,7 @@ pub enum Event<'t> {
 }
 
 fn put<'t>(out: &mut Vec<Event<'t>>, event: Event<'t>) -> Result<(), AllocError>
-    ensures { OnOk result (Adds out.old out.new (event_of event.entry ∷ []) (option_to_list (name_in event.entry))) }
+    ensures { OnOk result (AddsEvents out.old out.new (event_of event.entry ∷ []) (option_to_list (name_in event.entry))) }
 {
     out.push(event)?;
     Ok(())
@@ -43,7 +43,7 @@ fn put<'t>(out: &mut Vec<Event<'t>>, event: Event<'t>) -> Result<(), AllocError>
 
 // A name that is seen at once.
 fn declared<'t>(out: &mut Vec<Event<'t>>, name: &'t Named) -> Result<(), AllocError>
-    ensures { OnOk result (Adds out.old out.new (declared name.now.word) (name.now ∷ [])) }
+    ensures { OnOk result (AddsEvents out.old out.new (declared name.now.word) (name.now ∷ [])) }
 {
     put(out, Event::Declares(name))?;
     put(out, Event::Binds(name))
@@ -51,7 +51,7 @@ fn declared<'t>(out: &mut Vec<Event<'t>>, name: &'t Named) -> Result<(), AllocEr
 
 // Names that are seen at once.
 fn params<'t>(out: &mut Vec<Event<'t>>, names: &'t Names) -> Result<(), AllocError>
-    ensures { OnOk result (Adds out.old out.new (all_declared (words_of names.now)) names.now) }
+    ensures { OnOk result (AddsEvents out.old out.new (all_declared (words_of names.now)) names.now) }
 {
     for name in names.items() {
         declared(out, name)?;
@@ -61,7 +61,7 @@ fn params<'t>(out: &mut Vec<Event<'t>>, names: &'t Names) -> Result<(), AllocErr
 
 // A name that may be left out.
 fn declares<'t>(out: &mut Vec<Event<'t>>, name: &'t Option<Named>) -> Result<(), AllocError>
-    ensures { OnOk result (Adds out.old out.new (declares (option_word_of name.now)) (option_name name.now)) }
+    ensures { OnOk result (AddsEvents out.old out.new (declares (option_word_of name.now)) (option_name name.now)) }
 {
     match name {
         Some(name) => put(out, Event::Declares(name)),
@@ -70,7 +70,7 @@ fn declares<'t>(out: &mut Vec<Event<'t>>, name: &'t Option<Named>) -> Result<(),
 }
 
 fn binds<'t>(out: &mut Vec<Event<'t>>, name: &'t Option<Named>) -> Result<(), AllocError>
-    ensures { OnOk result (Adds out.old out.new (binds (option_word_of name.now)) []) }
+    ensures { OnOk result (AddsEvents out.old out.new (binds (option_word_of name.now)) []) }
 {
     match name {
         Some(name) => put(out, Event::Binds(name)),
@@ -80,7 +80,7 @@ fn binds<'t>(out: &mut Vec<Event<'t>>, name: &'t Option<Named>) -> Result<(), Al
 
 #[cycle(words)]
 fn expr<'t>(out: &mut Vec<Event<'t>>, e: &'t Expr) -> Result<(), AllocError>
-    ensures { OnOk result (Adds out.old out.new (expr_words e.now) (exp_names e.now)) }
+    ensures { OnOk result (AddsEvents out.old out.new (expr_words e.now) (exp_names e.now)) }
 {
     match e {
         Expr::Int(_) | Expr::Bool(_) | Expr::Null => Ok(()),
@@ -117,7 +117,7 @@ fn expr<'t>(out: &mut Vec<Event<'t>>, e: &'t Expr) -> Result<(), AllocError>
 
 #[cycle(words)]
 fn exprs<'t>(out: &mut Vec<Event<'t>>, es: &'t Exprs) -> Result<(), AllocError>
-    ensures { OnOk result (Adds out.old out.new (exprs_words es.now) (exprs_names es.now)) }
+    ensures { OnOk result (AddsEvents out.old out.new (exprs_words es.now) (exprs_names es.now)) }
 {
     for e in &es.list {
         expr(out, e)?;
@@ -127,7 +127,7 @@ fn exprs<'t>(out: &mut Vec<Event<'t>>, es: &'t Exprs) -> Result<(), AllocError>
 
 #[cycle(words)]
 fn parts<'t>(out: &mut Vec<Event<'t>>, ps: &'t Parts) -> Result<(), AllocError>
-    ensures { OnOk result (Adds out.old out.new (template_words ps.now) (template_names ps.now)) }
+    ensures { OnOk result (AddsEvents out.old out.new (template_words ps.now) (template_names ps.now)) }
 {
     for part in &ps.list {
         match part {
@@ -140,7 +140,7 @@ fn parts<'t>(out: &mut Vec<Event<'t>>, ps: &'t Parts) -> Result<(), AllocError>
 
 #[cycle(words)]
 fn dict_items<'t>(out: &mut Vec<Event<'t>>, ds: &'t DictItems) -> Result<(), AllocError>
-    ensures { OnOk result (Adds out.old out.new (pairs_words (dict_of ds.now)) (dict_names ds.now)) }
+    ensures { OnOk result (AddsEvents out.old out.new (pairs_words (dict_of ds.now)) (dict_names ds.now)) }
 {
     for item in &ds.list {
         expr(out, &item.key)?;
@@ -151,7 +151,7 @@ fn dict_items<'t>(out: &mut Vec<Event<'t>>, ds: &'t DictItems) -> Result<(), All
 
 #[cycle(words)]
 fn arrow_body<'t>(out: &mut Vec<Event<'t>>, body: &'t ArrowBody) -> Result<(), AllocError>
-    ensures { OnOk result (Adds out.old out.new (arrow_words body.now) (body_names body.now)) }
+    ensures { OnOk result (AddsEvents out.old out.new (arrow_words body.now) (body_names body.now)) }
 {
     match body {
         ArrowBody::One(e) => expr(out, e),
@@ -161,7 +161,7 @@ fn arrow_body<'t>(out: &mut Vec<Event<'t>>, body: &'t ArrowBody) -> Result<(), A
 
 #[cycle(words)]
 fn option_expr<'t>(out: &mut Vec<Event<'t>>, value: &'t Option<Expr>) -> Result<(), AllocError>
-    ensures { OnOk result (Adds out.old out.new (value_words value.now) (value_names value.now)) }
+    ensures { OnOk result (AddsEvents out.old out.new (value_words value.now) (value_names value.now)) }
 {
     match value {
         Some(e) => expr(out, e),
@@ -171,7 +171,7 @@ fn option_expr<'t>(out: &mut Vec<Event<'t>>, value: &'t Option<Expr>) -> Result<
 
 #[cycle(words)]
 fn option_stmt<'t>(out: &mut Vec<Event<'t>>, s: &'t Option<Box<Stmt>>) -> Result<(), AllocError>
-    ensures { OnOk result (Adds out.old out.new (step_words s.now) (step_names s.now)) }
+    ensures { OnOk result (AddsEvents out.old out.new (start_words s.now) (boxed_names s.now)) }
 {
     match s {
         Some(s) => stmt(out, s),
@@ -179,9 +179,24 @@ fn option_stmt<'t>(out: &mut Vec<Event<'t>>, s: &'t Option<Box<Stmt>>) -> Result
     }
 }
 
+// A step as a scope of its own.
+#[cycle(words)]
+fn option_step<'t>(out: &mut Vec<Event<'t>>, s: &'t Option<Box<Stmt>>) -> Result<(), AllocError>
+    ensures { OnOk result (AddsEvents out.old out.new (step_words s.now) (boxed_names s.now)) }
+{
+    match s {
+        Some(s) => {
+            put(out, Event::Opens)?;
+            stmt(out, s)?;
+            put(out, Event::Closes)
+        }
+        None => Ok(()),
+    }
+}
+
 #[cycle(words)]
 fn stmt<'t>(out: &mut Vec<Event<'t>>, s: &'t Stmt) -> Result<(), AllocError>
-    ensures { OnOk result (Adds out.old out.new (stmt_words s.now) (stm_names s.now)) }
+    ensures { OnOk result (AddsEvents out.old out.new (stmt_words s.now) (stm_names s.now)) }
 {
     match s {
         Stmt::Let(name, value) => {
@@ -215,7 +230,7 @@ fn stmt<'t>(out: &mut Vec<Event<'t>>, s: &'t Stmt) -> Result<(), AllocError>
             put(out, Event::Opens)?;
             option_stmt(out, start)?;
             option_expr(out, cond)?;
-            option_stmt(out, step)?;
+            option_step(out, step)?;
             block(out, body)?;
             put(out, Event::Closes)
         }
@@ -249,7 +264,7 @@ fn stmt<'t>(out: &mut Vec<Event<'t>>, s: &'t Stmt) -> Result<(), AllocError>
 
 #[cycle(words)]
 fn stmts<'t>(out: &mut Vec<Event<'t>>, ss: &'t Stmts) -> Result<(), AllocError>
-    ensures { OnOk result (Adds out.old out.new (stmts_words ss.now) (stmts_names ss.now)) }
+    ensures { OnOk result (AddsEvents out.old out.new (stmts_words ss.now) (stmts_names ss.now)) }
 {
     for s in &ss.list {
         stmt(out, s)?;
@@ -260,7 +275,7 @@ fn stmts<'t>(out: &mut Vec<Event<'t>>, ss: &'t Stmts) -> Result<(), AllocError>
 // Statements as a scope of their own.
 #[cycle(words)]
 fn block<'t>(out: &mut Vec<Event<'t>>, ss: &'t Stmts) -> Result<(), AllocError>
-    ensures { OnOk result (Adds out.old out.new (scope_of (stmts_words ss.now)) (stmts_names ss.now)) }
+    ensures { OnOk result (AddsEvents out.old out.new (scope_of (stmts_words ss.now)) (stmts_names ss.now)) }
 {
     put(out, Event::Opens)?;
     stmts(out, ss)?;

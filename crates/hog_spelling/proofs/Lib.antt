@@ -21,3 +21,4 @@ pub mod Count
 pub mod NestedLists
 pub mod NestedForms
 pub mod Nested
+pub mod Nesting

@@ -292,7 +292,7 @@ readers_sound (suc d) = let sound = readers_sound d in record {
   step = λ ts g is. plain_sound d (readers d) sound ts g is;
 }
 
-end_or : (ts : List Terminal) → ends_block ts ≡ true → after_close_brace ts ≡ None → ts ≡ []
+pub end_or : (ts : List Terminal) → ends_block ts ≡ true → after_close_brace ts ≡ None → ts ≡ []
 end_or [] o e = refl
 end_or (k.CloseBrace ∷ ts) o e = absurd (cc)
 end_or (_ ∷ ts) o e = absurd (cc)

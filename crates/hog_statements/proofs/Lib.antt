@@ -1,1 +1,2 @@
 pub mod Compounds
+pub mod Placing

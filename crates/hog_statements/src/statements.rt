@@ -1,11 +1,14 @@
 //! Reads statements from left to right, with `;` left out where it may be.
 
-ghost use Rattle.std.specs.Prelude.{◌≡◌, ◌<◌, ◌≤◌, ◌+◌, length, IfOk};
+ghost use Rattle.std.specs.Prelude.{◌≡◌, ◌<◌, ◌≤◌, ◌+◌, ◌++◌, length, IfOk};
+ghost use Rattle.hog_tree.specs.Names.{exp_names, stm_names};
 ghost use Rattle.hog_tree.specs.Plain.{Throw, Block, NoneStm, SomeStm, NoneExp, SomeExp};
 ghost use Rattle.hog_tree.specs.View.{word_of, option_word_of, exp_of, stm_of, option_exp_from, option_stm_from, option_stms_from};
 ghost use Rattle.hog_reading.specs.Read.{wants, either_way, got, grown, braced};
 ghost use Rattle.hog_reading.specs.ReadStatements.{readers, begun, ended, declared, plain, returned, condition, conditional, governed, otherwise, looped, over_each, run_through, block, optional, with_parameters, tried, in_parentheses};
-ghost use Rattle.hog_terms.specs.View.{left};
+ghost use Rattle.hog_terms.specs.Bound.{names_of};
+ghost use Rattle.hog_terms.specs.View.{left, named_from, IsPlaced};
+ghost use Rattle.hog_reading.specs.NamesOf.{stmts_names, option_exp_names, option_stm_names, option_stmts_names};
 ghost use Rattle.hog_reading.specs.Gives.{Gives, followed, stmts_of};
 ghost use Rattle.hog_terms.specs.Marks.{after_open, after_semi, after_close, after_function, after_catch, after_bound, is_target};
 
@@ -36,6 +39,7 @@ fn start<R: Readers>(
     requires deep { room ≤ R.levels again.now }
     ensures low { IfOk result (λ f. f.height ≤ room) }
     ensures gives { Gives stm_of tokens.now result ((readers room).start (left tokens.now at)) }
+    ensures places { IfOk result (λ f. IsPlaced (stm_names f.tree) tokens.now at f.at) }
 {
     if room == 0 {
         return Err(Stop::TooNested(at));
@@ -59,6 +63,7 @@ fn step<R: Readers>(
     requires deep { room ≤ R.levels again.now }
     ensures low { IfOk result (λ f. f.height ≤ room) }
     ensures gives { Gives stm_of tokens.now result ((readers room).step (left tokens.now at)) }
+    ensures places { IfOk result (λ f. IsPlaced (stm_names f.tree) tokens.now at f.at) }
 {
     if room == 0 {
         return Err(Stop::TooNested(at));
@@ -70,6 +75,7 @@ fn step<R: Readers>(
 fn ended(tokens: &Tokens, stmt: Found<Stmt>) -> Result<Found<Stmt>, Stop>
     ensures low { IfOk result (λ f. f.height ≡ stmt.height) }
     ensures gives { Gives stm_of tokens.now result (ended (got (stm_of stmt.tree) stmt.height (left tokens.now stmt.at))) }
+    ensures places { IfOk result (λ f. stm_names f.tree ++ named_from tokens.now f.at ≡ stm_names stmt.tree ++ named_from tokens.now stmt.at) }
 {
     if let Some(at) = semi(tokens, stmt.at) {
         return Ok(Found {
@@ -97,6 +103,7 @@ pub fn begun<R: Readers>(
     requires deep { room ≤ R.levels again.now }
     ensures low { IfOk result (λ f. f.height ≤ room + 1) }
     ensures gives { Gives stm_of tokens.now result (begun (readers room) (left tokens.now at)) }
+    ensures places { IfOk result (λ f. IsPlaced (stm_names f.tree) tokens.now at f.at) }
 {
     let Some((term, after)) = next(tokens, at) else {
         return ended(tokens, plain(again, alloc, tokens, room, at)?);
@@ -128,6 +135,7 @@ fn plain<R: Readers>(
     requires deep { room ≤ R.levels again.now }
     ensures low { IfOk result (λ f. f.height ≤ room + 1) }
     ensures gives { Gives stm_of tokens.now result (plain (readers room) (left tokens.now at)) }
+    ensures places { IfOk result (λ f. IsPlaced (stm_names f.tree) tokens.now at f.at) }
 {
     let target = again.expression(alloc, tokens, room, 1, at)?;
     let Some(after) = assign(tokens, target.at) else {
@@ -174,6 +182,7 @@ fn declaration<R: Readers>(
     requires deep { room ≤ R.levels again.now }
     ensures low { IfOk result (λ f. f.height ≤ room + 1) }
     ensures gives { Gives stm_of tokens.now result (declared (readers room) (left tokens.now at)) }
+    ensures places { IfOk result (λ f. IsPlaced (stm_names f.tree) tokens.now at f.at) }
 {
     let Some((name, after)) = name(alloc, tokens, at)? else {
         return Err(Stop::Syntax(at));
@@ -205,6 +214,7 @@ fn return_of<R: Readers>(
     requires deep { room ≤ R.levels again.now }
     ensures low { IfOk result (λ f. f.height ≤ room + 1) }
     ensures gives { Gives stm_of tokens.now result (returned (readers room) (left tokens.now at)) }
+    ensures places { IfOk result (λ f. IsPlaced (stm_names f.tree) tokens.now at f.at) }
 {
     if let Some(at) = semi(tokens, at) {
         return Ok(Found {
@@ -241,6 +251,7 @@ fn throw<R: Readers>(
     requires deep { room ≤ R.levels again.now }
     ensures low { IfOk result (λ f. f.height ≤ room + 1) }
     ensures gives { Gives stm_of tokens.now result (followed (followed ((readers room).expression 1 (left tokens.now at)) (grown Throw)) ended) }
+    ensures places { IfOk result (λ f. IsPlaced (stm_names f.tree) tokens.now at f.at) }
 {
     let value = again.expression(alloc, tokens, room, 1, at)?;
     let stmt = Found {
@@ -263,6 +274,7 @@ fn to_parenthesis<R: Readers>(
     requires deep { room ≤ R.levels again.now }
     ensures low { IfOk result (λ f. f.height ≤ room) }
     ensures gives { Gives exp_of tokens.now result (followed ((readers room).expression 1 (left tokens.now at)) in_parentheses) }
+    ensures places { IfOk result (λ f. IsPlaced (exp_names f.tree) tokens.now at f.at) }
 {
     let e = again.expression(alloc, tokens, room, 1, at)?;
     match close(tokens, e.at) {
@@ -287,6 +299,7 @@ fn condition<R: Readers>(
     requires deep { room ≤ R.levels again.now }
     ensures low { IfOk result (λ f. f.height ≤ room) }
     ensures gives { Gives exp_of tokens.now result (condition (readers room) (left tokens.now at)) }
+    ensures places { IfOk result (λ f. IsPlaced (exp_names f.tree) tokens.now at f.at) }
 {
     match open(tokens, at) {
         Some(after) => to_parenthesis(again, alloc, tokens, room, after),
@@ -307,6 +320,7 @@ fn if_else<R: Readers>(
     requires deep { room ≤ R.levels again.now }
     ensures low { IfOk result (λ f. f.height ≤ room + 1) }
     ensures gives { Gives stm_of tokens.now result (followed (condition (readers room) (left tokens.now at)) (λ c. followed (governed (readers room) c.rest) (λ b. followed (otherwise (readers room) b.rest) (conditional c b)))) }
+    ensures places { IfOk result (λ f. IsPlaced (stm_names f.tree) tokens.now at f.at) }
 {
     let test = condition(again, alloc, tokens, room, at)?;
     let body = governed(again, alloc, tokens, room, test.at)?;
@@ -331,6 +345,7 @@ fn while_loop<R: Readers>(
     requires deep { room ≤ R.levels again.now }
     ensures low { IfOk result (λ f. f.height ≤ room + 1) }
     ensures gives { Gives stm_of tokens.now result (followed (condition (readers room) (left tokens.now at)) (λ c. followed (governed (readers room) c.rest) (looped c))) }
+    ensures places { IfOk result (λ f. IsPlaced (stm_names f.tree) tokens.now at f.at) }
 {
     let test = condition(again, alloc, tokens, room, at)?;
     let body = governed(again, alloc, tokens, room, test.at)?;
@@ -353,6 +368,7 @@ fn for_loop<R: Readers>(
     requires deep { room ≤ R.levels again.now }
     ensures low { IfOk result (λ f. f.height ≤ room + 1) }
     ensures gives { Gives stm_of tokens.now result (wants (after_open (left tokens.now at)) (λ us. either_way (after_bound us) (over_each (readers room)) (run_through (readers room) us))) }
+    ensures places { IfOk result (λ f. IsPlaced (stm_names f.tree) tokens.now at f.at) }
 {
     let Some(begin) = open(tokens, at) else {
         return Err(Stop::Syntax(at));
@@ -377,6 +393,7 @@ fn for_each<R: Readers>(
     requires deep { room ≤ R.levels again.now }
     ensures low { IfOk result (λ f. f.height ≤ room + 1) }
     ensures gives { Gives stm_of tokens.now result (over_each (readers room) ((option_word_of names.key, word_of names.value), left tokens.now at)) }
+    ensures places { IfOk result (λ f. stm_names f.tree ++ named_from tokens.now f.at ≡ names_of names ++ named_from tokens.now at) }
 {
     let items = to_parenthesis(again, alloc, tokens, room, at)?;
     let body = governed(again, alloc, tokens, room, items.at)?;
@@ -400,6 +417,7 @@ fn for_steps<R: Readers>(
     requires deep { room ≤ R.levels again.now }
     ensures low { IfOk result (λ f. f.height ≤ room + 1) }
     ensures gives { Gives stm_of tokens.now result (run_through (readers room) (left tokens.now at)) }
+    ensures places { IfOk result (λ f. IsPlaced (stm_names f.tree) tokens.now at f.at) }
 {
     let first = optional_start(again, alloc, tokens, room, at)?;
     let test = optional_condition(again, alloc, tokens, room, first.at)?;
@@ -425,6 +443,7 @@ fn optional_start<R: Readers>(
     requires deep { room ≤ R.levels again.now }
     ensures low { IfOk result (λ f. f.height ≤ room) }
     ensures gives { Gives option_stm_from tokens.now result (optional NoneStm SomeStm after_semi (readers room).start (left tokens.now at)) }
+    ensures places { IfOk result (λ f. IsPlaced (option_stm_names f.tree) tokens.now at f.at) }
 {
     if let Some(at) = semi(tokens, at) {
         return Ok(Found {
@@ -456,6 +475,7 @@ fn optional_condition<R: Readers>(
     requires deep { room ≤ R.levels again.now }
     ensures low { IfOk result (λ f. f.height ≤ room) }
     ensures gives { Gives option_exp_from tokens.now result (optional NoneExp SomeExp after_semi ((readers room).expression 1) (left tokens.now at)) }
+    ensures places { IfOk result (λ f. IsPlaced (option_exp_names f.tree) tokens.now at f.at) }
 {
     if let Some(at) = semi(tokens, at) {
         return Ok(Found {
@@ -487,6 +507,7 @@ fn optional_step<R: Readers>(
     requires deep { room ≤ R.levels again.now }
     ensures low { IfOk result (λ f. f.height ≤ room) }
     ensures gives { Gives option_stm_from tokens.now result (optional NoneStm SomeStm after_close (readers room).step (left tokens.now at)) }
+    ensures places { IfOk result (λ f. IsPlaced (option_stm_names f.tree) tokens.now at f.at) }
 {
     if let Some(at) = close(tokens, at) {
         return Ok(Found {
@@ -519,6 +540,7 @@ fn function<R: Readers>(
     requires deep { room ≤ R.levels again.now }
     ensures low { IfOk result (λ f. f.height ≤ room + 1) }
     ensures gives { Gives stm_of tokens.now result (wants (after_function (left tokens.now at)) (with_parameters (readers room))) }
+    ensures places { IfOk result (λ f. IsPlaced (stm_names f.tree) tokens.now at f.at) }
 {
     let Some((name, after)) = function_name(alloc, tokens, at)? else {
         return Err(Stop::Syntax(at));
@@ -551,6 +573,7 @@ fn try_catch<R: Readers>(
     requires deep { room ≤ R.levels again.now }
     ensures low { IfOk result (λ f. f.height ≤ room + 1) }
     ensures gives { Gives stm_of tokens.now result (followed (block (readers room) (left tokens.now at)) (λ b. wants (after_catch b.rest) (λ p. followed (block (readers room) p.1) (tried b p.0)))) }
+    ensures places { IfOk result (λ f. IsPlaced (stm_names f.tree) tokens.now at f.at) }
 {
     let body = block(again, alloc, tokens, room, at)?;
     let Some((name, after)) = catch_name(alloc, tokens, body.at)? else {
@@ -565,7 +588,7 @@ fn try_catch<R: Readers>(
 }
 
 /// A block as a statement, after its brace.
-#[tactic(auto, using(hog_tree::proofs::Rows::block_is))]
+#[tactic(auto, using(hog_tree::proofs::Rows::block_is, hog_reading::proofs::NameRows::block_names))]
 fn block_statement<R: Readers>(
     again: &R,
     alloc: Global,
@@ -577,6 +600,7 @@ fn block_statement<R: Readers>(
     requires deep { room ≤ R.levels again.now }
     ensures low { IfOk result (λ f. f.height ≤ room + 1) }
     ensures gives { Gives stm_of tokens.now result (followed (braced (readers room).statement (left tokens.now at)) (grown Block)) }
+    ensures places { IfOk result (λ f. IsPlaced (stm_names f.tree) tokens.now at f.at) }
 {
     let body = braced(again, alloc, tokens, room, at)?;
     Ok(Found {
@@ -599,6 +623,7 @@ fn governed<R: Readers>(
     requires deep { room ≤ R.levels again.now }
     ensures low { IfOk result (λ f. f.height ≤ room) }
     ensures gives { Gives stmts_of tokens.now result (governed (readers room) (left tokens.now at)) }
+    ensures places { IfOk result (λ f. IsPlaced (stmts_names f.tree) tokens.now at f.at) }
 {
     if let Some(after) = open_brace(tokens, at) {
         return braced(again, alloc, tokens, room, after);
@@ -632,6 +657,7 @@ fn otherwise<R: Readers>(
     requires deep { room ≤ R.levels again.now }
     ensures low { IfOk result (λ f. f.height ≤ room) }
     ensures gives { Gives option_stms_from tokens.now result (otherwise (readers room) (left tokens.now at)) }
+    ensures places { IfOk result (λ f. IsPlaced (option_stmts_names f.tree) tokens.now at f.at) }
 {
     let Some(after) = else_word(tokens, at) else {
         return Ok(Found {

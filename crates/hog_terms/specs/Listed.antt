@@ -1,11 +1,11 @@
 -- What stands between the items of lists, and in templates. No reader has to trust this file.
-use Rattle.std.specs.Prelude.{◌≡◌, List, ◌∷◌, Bool, true, false, Option, Some, None, cond}
+use Rattle.std.specs.Prelude.{◌≡◌, ℕ, List, [], ◌∷◌, Bool, true, false, Option, Some, None, cond}
 use Rattle.std.specs.Str.{IsUtf8}
 use Rattle.hog_grammar.specs.Pieces.{Lexed}
 use Rattle.hog_grammar.specs.Terminal.{Terminal, meant}
 use Rattle.hog_grammar.specs.Terminal as k
 use Rattle.hog_terms.specs.Marks.{Shut, after_close, after_close_bracket, after_close_brace}
-use Rattle.hog_terms.specs.View.{left}
+use Rattle.hog_terms.specs.View.{left, IsPlaced}
 use Rattle.hog_terms.specs.declared.listed.Closer.{Closer}
 use Rattle.hog_terms.specs.declared.listed.Closer.TheVariants as c
 use Rattle.hog_terms.specs.declared.listed.Follow.{Follow}
@@ -60,3 +60,16 @@ StandsAs c (m.Characters bs i) ts = (ts ≡ k.Characters (meant bs.now) ∷ left
 StandsAs c (m.Hole i) ts = ts ≡ k.HoleStart ∷ left c i
 StandsAs c (m.End i) ts = ts ≡ k.TemplateEnd ∷ left c i
 StandsAs c m.Neither ts = is_part ts ≡ false
+
+-- No name stands between the index and what follows.
+abbrev pub FollowsUnnamed : Lexed → ℕ → Follow → Type 0
+FollowsUnnamed c at (w.More i) = IsPlaced [] c at i
+FollowsUnnamed c at (w.End i) = IsPlaced [] c at i
+FollowsUnnamed c at w.Neither = Unit {0}
+
+-- No name stands in what was read of a template.
+abbrev pub StandsUnnamed : Lexed → ℕ → PartMark → Type 0
+StandsUnnamed c at (m.Characters bs i) = IsPlaced [] c at i
+StandsUnnamed c at (m.Hole i) = IsPlaced [] c at i
+StandsUnnamed c at (m.End i) = IsPlaced [] c at i
+StandsUnnamed c at m.Neither = Unit {0}

@@ -1,7 +1,10 @@
 -- What contracts of the parser see of tokens. No reader has to trust this file.
-use Rattle.std.specs.Prelude.{◌≡◌, ◌≤◌, ℕ, List, [], ◌∷◌, drop, Option, Some, None}
+use Rattle.std.specs.Prelude.{◌≡◌, ◌≤◌, ℕ, List, [], ◌∷◌, ◌++◌, drop, Bool, false, Option, Some, None}
 use Rattle.std.specs.Str.{IsUtf8}
+use Rattle.hog_tree.specs.declared.tree.Named.{Named}
+use Rattle.hog_grammar.specs.declared.token.Token.{Token}
 use Rattle.hog_grammar.specs.Bytes.{value_from, greatest}
+use Rattle.hog_grammar.specs.Names.{names_after}
 use Rattle.hog_grammar.specs.Pieces.{Lexed}
 use Rattle.hog_grammar.specs.Terminal.{Terminal, terminals, meant, unquoted, word}
 use Rattle.hog_grammar.specs.Terminal as k
@@ -74,3 +77,22 @@ IsReadable (t.Number b) = value_from 0 b.now ≤ greatest
 IsReadable (t.Text b) = IsUtf8 (meant (unquoted b.now))
 IsReadable (t.Characters b) = IsUtf8 (meant b.now)
 IsReadable _ = Unit {0}
+
+-- the names from that index on, where it stands right after a `.` or `?.` or not
+abbrev pub names_from : Bool → Lexed → ℕ → List Named
+names_from dot c at = names_after dot c.text (drop at c.list)
+
+abbrev pub named_from : Lexed → ℕ → List Named
+named_from c at = names_from false c at
+
+-- From the first index up to the other these are the names.
+abbrev pub IsPlaced : List Named → Lexed → ℕ → ℕ → Type 0
+IsPlaced names c at after = named_from c at ≡ names ++ named_from c after
+
+-- the place of the first of these tokens; 0 where there is none
+abbrev pub first_place : List Token → ℕ
+first_place [] = 0
+first_place (t ∷ ts) = t.from
+
+abbrev pub place_at : Lexed → ℕ → ℕ
+place_at c at = first_place (drop at c.list)

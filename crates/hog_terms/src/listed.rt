@@ -1,9 +1,9 @@
 //! What stands between the items of lists and after them.
 
-ghost use Rattle.std.specs.Prelude.{◌≡◌, option_map};
+ghost use Rattle.std.specs.Prelude.{◌≡◌, [], option_map, IfSome};
 ghost use Rattle.hog_terms.specs.Marks.{after_comma};
-ghost use Rattle.hog_terms.specs.Listed.{shut_of, comma_of, follow_of, follows, StandsAs};
-ghost use Rattle.hog_terms.specs.View.{left};
+ghost use Rattle.hog_terms.specs.Listed.{shut_of, comma_of, follow_of, follows, FollowsUnnamed, StandsAs, StandsUnnamed};
+ghost use Rattle.hog_terms.specs.View.{left, IsPlaced};
 
 use crate::cursor::next;
 use crate::marks::{close, close_brace, close_bracket, comma};
@@ -38,7 +38,8 @@ pub enum PartMark<'t> {
 
 /// What stands at an index of a template. Takes no memory.
 pub fn part_at<'t>(tokens: &Tokens<'t>, at: usize) -> PartMark<'t>
-    ensures { StandsAs tokens.now result (left tokens.now at) }
+    ensures value { StandsAs tokens.now result (left tokens.now at) }
+    ensures names { StandsUnnamed tokens.now at result }
 {
     let Some((term, after)) = next(tokens, at) else {
         return PartMark::Neither;
@@ -53,7 +54,8 @@ pub fn part_at<'t>(tokens: &Tokens<'t>, at: usize) -> PartMark<'t>
 
 /// The index after the mark. Takes no memory.
 pub fn closing(tokens: &Tokens, closer: Closer, at: usize) -> Option<usize>
-    ensures { option_map (λ i. left tokens.now i) result ≡ shut_of closer (left tokens.now at) }
+    ensures value { option_map (λ i. left tokens.now i) result ≡ shut_of closer (left tokens.now at) }
+    ensures names { IfSome result (λ i. IsPlaced [] tokens.now at i) }
 {
     match closer {
         Closer::Parenthesis => close(tokens, at),
@@ -64,7 +66,8 @@ pub fn closing(tokens: &Tokens, closer: Closer, at: usize) -> Option<usize>
 
 /// What follows an item. Before a bracket and a brace one more comma may stand. Takes no memory.
 pub fn following(tokens: &Tokens, closer: Closer, at: usize) -> Follow
-    ensures { follow_of tokens.now result ≡ follows (comma_of closer) (shut_of closer) (left tokens.now at) (after_comma (left tokens.now at)) }
+    ensures value { follow_of tokens.now result ≡ follows (comma_of closer) (shut_of closer) (left tokens.now at) (after_comma (left tokens.now at)) }
+    ensures names { FollowsUnnamed tokens.now at result }
 {
     let Some(after) = comma(tokens, at) else {
         return match closing(tokens, closer, at) {

@@ -1,12 +1,12 @@
 //! What stands at an index: marks, operators, and what they go on with.
 
-ghost use Rattle.std.specs.Prelude.{◌≡◌, ◌<◌, ◌^◌, ◌∷◌, length, option_map};
+ghost use Rattle.std.specs.Prelude.{◌≡◌, ◌<◌, ◌^◌, [], ◌∷◌, length, option_map, IfSome};
 ghost use Rattle.hog_tree.specs.Plain.{Word};
 ghost use Rattle.hog_grammar.specs.Terminal as k;
 ghost use Rattle.hog_grammar.specs.Forms.{goes_on, ends_block};
 ghost use Rattle.hog_grammar.specs.Spelling.{level_of};
 ghost use Rattle.hog_terms.specs.Marks.{after_open, after_close, after_close_bracket, after_open_brace, after_close_brace, after_comma, after_semi, after_colon, after_assign, after_arrow, after_hole, after_else, after_let, after_in, operator, lead, begins_arrow};
-ghost use Rattle.hog_terms.specs.View.{left};
+ghost use Rattle.hog_terms.specs.View.{left, IsPlaced};
 
 use crate::cursor::next;
 use crate::term::Term;
@@ -15,7 +15,8 @@ use hog_tree::tree::BinaryOp;
 
 /// The index after an opening parenthesis. Takes no memory.
 pub fn open(tokens: &Tokens, at: usize) -> Option<usize>
-    ensures { option_map (λ i. left tokens.now i) result ≡ after_open (left tokens.now at) }
+    ensures value { option_map (λ i. left tokens.now i) result ≡ after_open (left tokens.now at) }
+    ensures names { IfSome result (λ i. IsPlaced [] tokens.now at i) }
 {
     let (term, after) = next(tokens, at)?;
     match term {
@@ -26,7 +27,8 @@ pub fn open(tokens: &Tokens, at: usize) -> Option<usize>
 
 /// The index after a closing parenthesis. Takes no memory.
 pub fn close(tokens: &Tokens, at: usize) -> Option<usize>
-    ensures { option_map (λ i. left tokens.now i) result ≡ after_close (left tokens.now at) }
+    ensures value { option_map (λ i. left tokens.now i) result ≡ after_close (left tokens.now at) }
+    ensures names { IfSome result (λ i. IsPlaced [] tokens.now at i) }
 {
     let (term, after) = next(tokens, at)?;
     match term {
@@ -37,7 +39,8 @@ pub fn close(tokens: &Tokens, at: usize) -> Option<usize>
 
 /// The index after a closing bracket. Takes no memory.
 pub fn close_bracket(tokens: &Tokens, at: usize) -> Option<usize>
-    ensures { option_map (λ i. left tokens.now i) result ≡ after_close_bracket (left tokens.now at) }
+    ensures value { option_map (λ i. left tokens.now i) result ≡ after_close_bracket (left tokens.now at) }
+    ensures names { IfSome result (λ i. IsPlaced [] tokens.now at i) }
 {
     let (term, after) = next(tokens, at)?;
     match term {
@@ -48,7 +51,8 @@ pub fn close_bracket(tokens: &Tokens, at: usize) -> Option<usize>
 
 /// The index after an opening brace. Takes no memory.
 pub fn open_brace(tokens: &Tokens, at: usize) -> Option<usize>
-    ensures { option_map (λ i. left tokens.now i) result ≡ after_open_brace (left tokens.now at) }
+    ensures value { option_map (λ i. left tokens.now i) result ≡ after_open_brace (left tokens.now at) }
+    ensures names { IfSome result (λ i. IsPlaced [] tokens.now at i) }
 {
     let (term, after) = next(tokens, at)?;
     match term {
@@ -59,7 +63,8 @@ pub fn open_brace(tokens: &Tokens, at: usize) -> Option<usize>
 
 /// The index after a closing brace. Takes no memory.
 pub fn close_brace(tokens: &Tokens, at: usize) -> Option<usize>
-    ensures { option_map (λ i. left tokens.now i) result ≡ after_close_brace (left tokens.now at) }
+    ensures value { option_map (λ i. left tokens.now i) result ≡ after_close_brace (left tokens.now at) }
+    ensures names { IfSome result (λ i. IsPlaced [] tokens.now at i) }
 {
     let (term, after) = next(tokens, at)?;
     match term {
@@ -70,7 +75,8 @@ pub fn close_brace(tokens: &Tokens, at: usize) -> Option<usize>
 
 /// The index after a comma. Takes no memory.
 pub fn comma(tokens: &Tokens, at: usize) -> Option<usize>
-    ensures { option_map (λ i. left tokens.now i) result ≡ after_comma (left tokens.now at) }
+    ensures value { option_map (λ i. left tokens.now i) result ≡ after_comma (left tokens.now at) }
+    ensures names { IfSome result (λ i. IsPlaced [] tokens.now at i) }
 {
     let (term, after) = next(tokens, at)?;
     match term {
@@ -81,7 +87,8 @@ pub fn comma(tokens: &Tokens, at: usize) -> Option<usize>
 
 /// The index after a `;`. Takes no memory.
 pub fn semi(tokens: &Tokens, at: usize) -> Option<usize>
-    ensures { option_map (λ i. left tokens.now i) result ≡ after_semi (left tokens.now at) }
+    ensures value { option_map (λ i. left tokens.now i) result ≡ after_semi (left tokens.now at) }
+    ensures names { IfSome result (λ i. IsPlaced [] tokens.now at i) }
 {
     let (term, after) = next(tokens, at)?;
     match term {
@@ -92,7 +99,8 @@ pub fn semi(tokens: &Tokens, at: usize) -> Option<usize>
 
 /// The index after a colon. Takes no memory.
 pub fn colon(tokens: &Tokens, at: usize) -> Option<usize>
-    ensures { option_map (λ i. left tokens.now i) result ≡ after_colon (left tokens.now at) }
+    ensures value { option_map (λ i. left tokens.now i) result ≡ after_colon (left tokens.now at) }
+    ensures names { IfSome result (λ i. IsPlaced [] tokens.now at i) }
 {
     let (term, after) = next(tokens, at)?;
     match term {
@@ -103,7 +111,8 @@ pub fn colon(tokens: &Tokens, at: usize) -> Option<usize>
 
 /// The index after a `:=`. Takes no memory.
 pub fn assign(tokens: &Tokens, at: usize) -> Option<usize>
-    ensures { option_map (λ i. left tokens.now i) result ≡ after_assign (left tokens.now at) }
+    ensures value { option_map (λ i. left tokens.now i) result ≡ after_assign (left tokens.now at) }
+    ensures names { IfSome result (λ i. IsPlaced [] tokens.now at i) }
 {
     let (term, after) = next(tokens, at)?;
     match term {
@@ -114,7 +123,8 @@ pub fn assign(tokens: &Tokens, at: usize) -> Option<usize>
 
 /// The index after an arrow. Takes no memory.
 pub fn arrow(tokens: &Tokens, at: usize) -> Option<usize>
-    ensures { option_map (λ i. left tokens.now i) result ≡ after_arrow (left tokens.now at) }
+    ensures value { option_map (λ i. left tokens.now i) result ≡ after_arrow (left tokens.now at) }
+    ensures names { IfSome result (λ i. IsPlaced [] tokens.now at i) }
 {
     let (term, after) = next(tokens, at)?;
     match term {
@@ -125,7 +135,8 @@ pub fn arrow(tokens: &Tokens, at: usize) -> Option<usize>
 
 /// The index after the end of a hole. Takes no memory.
 pub fn hole(tokens: &Tokens, at: usize) -> Option<usize>
-    ensures { option_map (λ i. left tokens.now i) result ≡ after_hole (left tokens.now at) }
+    ensures value { option_map (λ i. left tokens.now i) result ≡ after_hole (left tokens.now at) }
+    ensures names { IfSome result (λ i. IsPlaced [] tokens.now at i) }
 {
     let (term, after) = next(tokens, at)?;
     match term {
@@ -136,7 +147,8 @@ pub fn hole(tokens: &Tokens, at: usize) -> Option<usize>
 
 /// The index after `else`. Takes no memory.
 pub fn else_word(tokens: &Tokens, at: usize) -> Option<usize>
-    ensures { option_map (λ i. left tokens.now i) result ≡ after_else (left tokens.now at) }
+    ensures value { option_map (λ i. left tokens.now i) result ≡ after_else (left tokens.now at) }
+    ensures names { IfSome result (λ i. IsPlaced [] tokens.now at i) }
 {
     let (term, after) = next(tokens, at)?;
     match term {
@@ -147,7 +159,8 @@ pub fn else_word(tokens: &Tokens, at: usize) -> Option<usize>
 
 /// The operator between two operands, and the index after it. Takes no memory.
 pub fn infix_at(tokens: &Tokens, at: usize) -> Option<(BinaryOp, usize)>
-    ensures { option_map (λ x. (x.0, left tokens.now x.1)) result ≡ operator (left tokens.now at) }
+    ensures value { option_map (λ x. (x.0, left tokens.now x.1)) result ≡ operator (left tokens.now at) }
+    ensures names { IfSome result (λ x. IsPlaced [] tokens.now at x.1) }
 {
     let (term, after) = next(tokens, at)?;
     match term {
@@ -214,7 +227,8 @@ pub fn level_of(op: BinaryOp) -> u32
 
 /// The index after `in`. Takes no memory.
 pub fn in_word(tokens: &Tokens, at: usize) -> Option<usize>
-    ensures { option_map (λ i. left tokens.now i) result ≡ after_in (left tokens.now at) }
+    ensures value { option_map (λ i. left tokens.now i) result ≡ after_in (left tokens.now at) }
+    ensures names { IfSome result (λ i. IsPlaced [] tokens.now at i) }
 {
     let (term, after) = next(tokens, at)?;
     match term {
@@ -225,7 +239,8 @@ pub fn in_word(tokens: &Tokens, at: usize) -> Option<usize>
 
 /// The index after `let`. Takes no memory.
 pub fn let_word(tokens: &Tokens, at: usize) -> Option<usize>
-    ensures { option_map (λ i. left tokens.now i) result ≡ after_let (left tokens.now at) }
+    ensures value { option_map (λ i. left tokens.now i) result ≡ after_let (left tokens.now at) }
+    ensures names { IfSome result (λ i. IsPlaced [] tokens.now at i) }
 {
     let (term, after) = next(tokens, at)?;
     match term {

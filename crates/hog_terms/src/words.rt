@@ -1,12 +1,13 @@
 //! Words, numbers and texts as trees hold them.
 
-ghost use Rattle.std.specs.Prelude.{◌≡◌, Some, IfOk, option_map};
+ghost use Rattle.std.specs.Prelude.{◌≡◌, [], ◌∷◌, ◌++◌, true, Some, IfOk, IfSome, option_map};
 ghost use Rattle.std.specs.Str.{IsUtf8};
 ghost use Rattle.hog_tree.specs.View.{option_word_of};
 ghost use Rattle.hog_tree.specs.View as v;
 ghost use Rattle.hog_terms.specs.View.{IsReadable};
 ghost use Rattle.hog_terms.specs.Marks.{word_of, after_name, after_word, after_function, after_catch, after_bound, after_first, after_key};
-ghost use Rattle.hog_terms.specs.View.{left, terminal_is};
+ghost use Rattle.hog_terms.specs.Bound.{names_of};
+ghost use Rattle.hog_terms.specs.View.{left, terminal_is, names_from, named_from, place_at, IsPlaced};
 
 use crate::cursor::next;
 use crate::literals::text_of;
@@ -25,7 +26,10 @@ pub struct Bound {
 }
 
 /// The place of the first byte of a token.
-fn place(tokens: &Tokens, at: usize) -> u32 {
+#[tactic(auto, using(crate::proofs::Place::place_of_token, crate::proofs::Place::place_of_none))]
+fn place(tokens: &Tokens, at: usize) -> u32
+    ensures { result ≡ place_at tokens.now at }
+{
     let list = tokens.list();
     if at < list.len() { list[at].from } else { 0 }
 }
@@ -33,7 +37,8 @@ fn place(tokens: &Tokens, at: usize) -> u32 {
 /// The name that stands at `at` with these bytes.
 pub fn name_of(alloc: Global, tokens: &Tokens, at: usize, bytes: &[u8]) -> Result<Named, AllocError>
     requires { IsUtf8 bytes.now }
-    ensures { IfOk result (λ n. v.word_of n ≡ bytes.now) }
+    ensures word { IfOk result (λ n. v.word_of n ≡ bytes.now) }
+    ensures place { IfOk result (λ n. n.at ≡ place_at tokens.now at) }
 {
     Ok(Named {
         at: place(tokens, at),
@@ -43,7 +48,8 @@ pub fn name_of(alloc: Global, tokens: &Tokens, at: usize, bytes: &[u8]) -> Resul
 
 /// The name at the front, and the index after it.
 pub fn name(alloc: Global, tokens: &Tokens, at: usize) -> Result<Option<(Named, usize)>, AllocError>
-    ensures { IfOk result (λ o. option_map (λ x. (v.word_of x.0, left tokens.now x.1)) o ≡ after_name (left tokens.now at)) }
+    ensures value { IfOk result (λ o. option_map (λ x. (v.word_of x.0, left tokens.now x.1)) o ≡ after_name (left tokens.now at)) }
+    ensures names { IfOk result (λ o. IfSome o (λ x. IsPlaced (x.0 ∷ []) tokens.now at x.1)) }
 {
     match next(tokens, at) {
         Some((Term::Word(bytes), after)) => {
@@ -60,7 +66,8 @@ pub fn function_name(
     tokens: &Tokens,
     at: usize,
 ) -> Result<Option<(Named, usize)>, AllocError>
-    ensures { IfOk result (λ o. option_map (λ x. (v.word_of x.0, left tokens.now x.1)) o ≡ after_function (left tokens.now at)) }
+    ensures value { IfOk result (λ o. option_map (λ x. (v.word_of x.0, left tokens.now x.1)) o ≡ after_function (left tokens.now at)) }
+    ensures names { IfOk result (λ o. IfSome o (λ x. IsPlaced (x.0 ∷ []) tokens.now at x.1)) }
 {
     let Some((Term::Word(bytes), after)) = next(tokens, at) else {
         return Ok(None);
@@ -78,7 +85,8 @@ pub fn catch_name(
     tokens: &Tokens,
     at: usize,
 ) -> Result<Option<(Named, usize)>, AllocError>
-    ensures { IfOk result (λ o. option_map (λ x. (v.word_of x.0, left tokens.now x.1)) o ≡ after_catch (left tokens.now at)) }
+    ensures value { IfOk result (λ o. option_map (λ x. (v.word_of x.0, left tokens.now x.1)) o ≡ after_catch (left tokens.now at)) }
+    ensures names { IfOk result (λ o. IfSome o (λ x. IsPlaced (x.0 ∷ []) tokens.now at x.1)) }
 {
     let Some((Term::Catch, after)) = next(tokens, at) else {
         return Ok(None);
@@ -103,7 +111,8 @@ fn keyed(
     key: Named,
     at: usize,
 ) -> Result<Option<(Bound, usize)>, AllocError>
-    ensures { IfOk result (λ o. option_map (λ x. ((option_word_of x.0.key, v.word_of x.0.value), left tokens.now x.1)) o ≡ after_key (v.word_of key) (left tokens.now at)) }
+    ensures value { IfOk result (λ o. option_map (λ x. ((option_word_of x.0.key, v.word_of x.0.value), left tokens.now x.1)) o ≡ after_key (v.word_of key) (left tokens.now at)) }
+    ensures names { IfOk result (λ o. IfSome o (λ x. names_of x.0 ++ named_from tokens.now x.1 ≡ key ∷ named_from tokens.now at)) }
 {
     let Some((Term::Word(bytes), after)) = next(tokens, at) else {
         return Ok(None);
@@ -123,7 +132,8 @@ fn bound_by(
     first: Named,
     after: usize,
 ) -> Result<Option<(Bound, usize)>, AllocError>
-    ensures { IfOk result (λ o. option_map (λ x. ((option_word_of x.0.key, v.word_of x.0.value), left tokens.now x.1)) o ≡ after_first (v.word_of first) (left tokens.now after)) }
+    ensures value { IfOk result (λ o. option_map (λ x. ((option_word_of x.0.key, v.word_of x.0.value), left tokens.now x.1)) o ≡ after_first (v.word_of first) (left tokens.now after)) }
+    ensures names { IfOk result (λ o. IfSome o (λ x. names_of x.0 ++ named_from tokens.now x.1 ≡ first ∷ named_from tokens.now after)) }
 {
     let Some((term, at)) = next(tokens, after) else {
         return Ok(None);
@@ -147,7 +157,8 @@ pub fn bound_names(
     tokens: &Tokens,
     at: usize,
 ) -> Result<Option<(Bound, usize)>, AllocError>
-    ensures { IfOk result (λ o. option_map (λ x. ((option_word_of x.0.key, v.word_of x.0.value), left tokens.now x.1)) o ≡ after_bound (left tokens.now at)) }
+    ensures value { IfOk result (λ o. option_map (λ x. ((option_word_of x.0.key, v.word_of x.0.value), left tokens.now x.1)) o ≡ after_bound (left tokens.now at)) }
+    ensures names { IfOk result (λ o. IfSome o (λ x. IsPlaced (names_of x.0) tokens.now at x.1)) }
 {
     let Some((Term::Let, begin)) = next(tokens, at) else {
         return Ok(None);
@@ -199,7 +210,8 @@ pub fn property(
     tokens: &Tokens,
     at: usize,
 ) -> Result<Option<(HogText, usize)>, AllocError>
-    ensures { IfOk result (λ o. option_map (λ x. (x.0, left tokens.now x.1)) o ≡ after_word (left tokens.now at)) }
+    ensures value { IfOk result (λ o. option_map (λ x. (x.0, left tokens.now x.1)) o ≡ after_word (left tokens.now at)) }
+    ensures names { IfOk result (λ o. IfSome o (λ x. names_from true tokens.now at ≡ named_from tokens.now x.1)) }
 {
     let Some((term, after)) = next(tokens, at) else {
         return Ok(None);

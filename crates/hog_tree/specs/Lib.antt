@@ -1,3 +1,5 @@
 pub mod Plain
 pub mod View
 pub mod Count
+pub mod Names
+pub mod Nesting

@@ -1,10 +1,12 @@
 //! Heaps: cells by number.
 
 ghost use Rattle.std.specs.Prelude.{◌≡◌};
+ghost use Rattle.hog_value.specs.Cells as cells;
 ghost use Rattle.hog_value.specs.Operations.{place_of};
 
 use crate::cell::Cell;
 use crate::meter::Meter;
+use crate::text::HogText;
 use crate::value::{Kind, SetStop, Stop, Value};
 use std::alloc::Global;
 use std::marker::Model;
@@ -184,10 +186,42 @@ impl Heap {
         Ok(())
     }
 
+    /// Sets a key of a dictionary: one that is there keeps its place, and a new one is copied, goes last and is charged.
+    #[tactic(auto, unfolding(crate::specs::Operations::set_key_of))]
+    pub fn set_key(&mut self, dict: u32, key: &HogText, v: Value, m: &mut Meter) -> Result<(), Stop>
+        requires dict { IsSome (pairs_at self.old dict) }
+        requires names { NamesBelow (length self.old) v }
+        requires covered { IsCovered self.old m.old.units }
+        ensures ok { OnOk result
+            (set_key_of self.old dict key.now v m.old.units ≡ Gives tt self.new m.new.units) }
+        ensures turns_and_depth { OnOk result (m.new ≡ record m.old { units = m.new.units }) }
+        ensures spent { (result ≡ Err Stop.UnitsSpent)
+            ↔ (set_key_of self.old dict key.now v m.old.units ≡ Spends) }
+        ensures err { OnErr result (self.new ≡ self.old) }
+        ensures err_meter { OnErr result (m.new ≡ m.old) }
+        ensures count { length self.new ≡ length self.old }
+        ensures covered { IsCovered self.new m.new.units }
+    {
+        let Cell::Dict(pairs) = &mut self.cells[dict as usize] else {
+            unreachable!()
+        };
+        if let Some(place) = pairs.place(key) {
+            pairs.set_at(place, v);
+            return Ok(());
+        }
+        let mut paid = *m;
+        if !paid.spend_units(cost_of_pair(key)) {
+            return Err(Stop::UnitsSpent);
+        }
+        pairs.insert(key.copy()?, v)?;
+        *m = paid;
+        Ok(())
+    }
+
     /// Sets a key of a dictionary, the text with the number `key`: one that is there keeps its place, and a new one
     /// is copied, goes last and is charged.
     #[tactic(auto, unfolding(crate::specs::Operations::set_key_of))]
-    pub fn set_key(&mut self, dict: u32, key: u32, v: Value, m: &mut Meter) -> Result<(), Stop>
+    pub fn set_key_at(&mut self, dict: u32, key: u32, v: Value, m: &mut Meter) -> Result<(), Stop>
         requires dict { IsSome (pairs_at self.old dict) }
         requires key { IsSome (text_at self.old key) }
         requires names { NamesBelow (length self.old) v }
@@ -216,7 +250,7 @@ impl Heap {
             return Ok(());
         }
         let mut paid = *m;
-        if !paid.spend_units((text.bytes().len() as u64).saturating_add(16)) {
+        if !paid.spend_units(cost_of_pair(text)) {
             return Err(Stop::UnitsSpent);
         }
         let text = text.copy()?;
@@ -260,6 +294,13 @@ impl Heap {
             },
         }
     }
+}
+
+/// The units of a new pair with this key.
+fn cost_of_pair(key: &HogText) -> u64
+    ensures { result ≡ cells.cost_of_pair key.now }
+{
+    key.bytes().len() as u64 + 16
 }
 
 /// The place of an index, which counts from 1.

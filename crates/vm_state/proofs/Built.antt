@@ -1,34 +1,28 @@
 -- What was read of a state are parts of a machine.
-use Rattle.std.proofs.Common.{◌≡◌, ℕ, suc, ◌*◌, ◌<◌, ◌≤◌, List, [], ◌∷◌, length, reverse, Bool, true, false, ◌&&◌, ◌==◌, not, map, Option, Some, None, refl, sym, ap, ◌∙◌, subst, arith}
+use Rattle.std.proofs.Common.{◌≡◌, ℕ, ◌*◌, ◌≤◌, List, [], ◌∷◌, length, reverse, Bool, true, false, ◌&&◌, ◌==◌, not, map, Option, Some, None, refl, sym, ap, ◌∙◌, arith}
 use Rattle.std.proofs.lemmas.Bool.Decides.{nat_tests}
 use Rattle.std.proofs.lemmas.List.{length-map}
 use Rattle.std.proofs.lemmas.List.Folds.{list_all-map}
-use Rattle.std.proofs.lemmas.List.Elements.{All-from_recursion}
-use Rattle.std.proofs.lemmas.Option.{slice_get_within}
-use Rattle.std.specs.Prelude.{IsTrue, IsSome, is_some, nat_le, slice_get, option_and_then}
-use Rattle.std.specs.List.{All, AllByRecursion, list_all, last_or}
+use Rattle.std.specs.Prelude.{IsTrue, is_some, nat_le}
+use Rattle.std.specs.List.{AllByRecursion, list_all}
 use Rattle.hog_value.specs.declared.cell.FunCell.{FunCell}
 use Rattle.hog_value.specs.declared.trace.End.{End}
 use Rattle.hog_value.specs.declared.trace.TraceItem.{TraceItem}
-use Rattle.hog_value.specs.declared.trace.TraceItem.TheVariants.{Printed, Asked}
-use Rattle.hog_value.specs.Values.{Val, NamesBelow}
-use Rattle.hog_value.specs.Cells.{CellOf, HeapOf, IsSound, pairs_at, pairs_of}
+use Rattle.hog_value.specs.Values.{Val}
+use Rattle.hog_value.specs.Cells.{HeapOf, IsSound}
 use Rattle.hog_value.specs.Meters.{max_turns, max_units, max_depth}
 use Rattle.hog_value.specs.Views.{cell_of}
-use Rattle.hog_meaning.specs.Meaning.{is_request, most_requests}
-use Rattle.vm_course.specs.State.{Upvalue, Frame, ThrowFrame, Running, Waiting, Ended, Mode, State}
+use Rattle.hog_meaning.specs.Meaning.{most_requests}
+use Rattle.vm_course.specs.State.{Upvalue, Frame, ThrowFrame, Mode}
 use Rattle.vm_course.specs.Run.{RunState}
-use Rattle.vm_frames.specs.Parts.{ClosedBelow, places_differ}
+use Rattle.vm_frames.specs.Parts.{places_differ}
 use Rattle.vm_frames.specs.Views.{upvalue_of}
-use Rattle.vm_operations.specs.Here.{IsFit}
-use Rattle.vm_operations.specs.Machine.{request_of, asked_in, asked_by, HasEnded, GlobalsStand, IsStanding}
 use Rattle.vm_operations.specs.Seen as seen
 use Rattle.state_forms.specs.Values.{CellFits}
 use Rattle.state_forms.specs.Calls.{mode_of}
 use Rattle.vm_state.specs.declared.parts.Parts.{Parts}
-use Rattle.vm_course.specs.States.{requests_in, ended_with, is_memory, names, cell_stands, later_frames, frames_stand, throws_stand, upvalues_stand, globals_stand, ends_with_request, waits_for, is_state}
+use Rattle.vm_course.specs.States.{requests_in, names, cell_stands, later_frames, frames_stand, throws_stand, globals_stand, waits_for, is_state}
 use Rattle.vm_state.specs.Parts.{state_of, counts_hold, calls_hold, values_hold, parts_hold, upvalues_hold}
-use Rattle.vm_state.proofs.Back.{all_reverse}
 use Rattle.vm_state.proofs.Parted.{is_held}
 use Rattle.vm_operations.proofs.Passing.{both}
 use Rattle.vm_state.proofs.Facts.{closed_by, distinct_by, apart}

@@ -1,18 +1,17 @@
 -- What holds of each state.
-use Rattle.std.proofs.Common.{◌≡◌, ℕ, ◌<◌, ◌≤◌, ◌*◌, List, [], ◌∷◌, ◌++◌, length, Bool, true, false, cond, ◌&&◌, ◌||◌, ◌==◌, not, Option, Some, None, refl, sym, ap, ◌∙◌, subst, arith}
+use Rattle.std.proofs.Common.{◌≡◌, ℕ, List, [], ◌∷◌, ◌++◌, length, Bool, true, false, cond, ◌&&◌, ◌||◌, ◌==◌, not, Some, None, refl, ap, ◌∙◌, arith}
 use Rattle.std.proofs.lemmas.Bool.Decides.{nat_tests}
 use Rattle.std.proofs.lemmas.List.Elements.{All-from_recursion}
 use Rattle.std.proofs.lemmas.List.Folds.{list_any-append}
-use Rattle.std.specs.Prelude.{reverse, nat_lt, nat_le, nat_eq, is_none}
+use Rattle.std.specs.Prelude.{nat_eq, is_none}
 use Rattle.std.specs.List.{All, AllByRecursion, list_all, list_any}
 use Rattle.hog_value.specs.declared.cell.FunCell.{FunCell}
-use Rattle.hog_value.specs.declared.value.Value.TheVariants.{Null, Bool as Truth, Int, Ref}
 use Rattle.hog_value.specs.Values.{Val, NamesBelow}
 use Rattle.hog_value.specs.Cells.{CellOf, Text, Array, Dict, Fun, HeapOf, CellNamesBelow, IsClosed, HasDistinctKeys}
 use Rattle.state_forms.specs.Values.{CellFits}
 use Rattle.vm_course.specs.State.{Upvalue, Opened, Closed}
 use Rattle.vm_course.specs.Stack.{one_on, find_open}
-use Rattle.vm_frames.specs.Parts.{ClosedBelow, places_differ}
+use Rattle.vm_frames.specs.Parts.{places_differ}
 use Rattle.vm_course.specs.States.{names, cell_stands, upvalues_stand}
 use Rattle.vm_operations.proofs.Passing.{both, all_from, names_below}
 

@@ -1,13 +1,12 @@
 -- The forms of a machine's parts are the elements of its text, and what was written of it fits.
-use Rattle.std.proofs.Common.{◌≡◌, ◌↔◌, ◌<◌, ◌^◌, List, [], ◌∷◌, ◌++◌, Bool, true, false, Option, Some, None, IfSome, map, reverse, refl, sym, ap, ◌∙◌, subst}
+use Rattle.std.proofs.Common.{◌≡◌, ◌↔◌, ◌<◌, ◌^◌, List, [], ◌∷◌, ◌++◌, Bool, true, false, IfSome, map, reverse, refl, sym, ap, ◌∙◌, subst}
 use Rattle.std.proofs.lemmas.List.{reverse-reverse, reverse-append}
 use Rattle.std.specs.Prelude.{IsTrue}
 use Rattle.std.specs.List.{AllByRecursion}
-use Rattle.serde_json.specs.Data.{Data}
 use Rattle.serde_json.specs.View.{view}
 use Rattle.hog_value.specs.declared.trace.Shown.{Shown}
 use Rattle.hog_value.specs.Values.{Val}
-use Rattle.vm_course.specs.State.{Frame, ThrowFrame, Running, Waiting, Ended, Mode, State}
+use Rattle.vm_course.specs.State.{Frame, ThrowFrame, Running, Waiting, Ended, Mode}
 use Rattle.vm_course.specs.Course as course
 use Rattle.vm_course.specs.Run.{RunState}
 use Rattle.vm_frames.specs.declared.upvalues.Upvalue as u

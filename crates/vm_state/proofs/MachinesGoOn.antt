@@ -1,10 +1,9 @@
 -- A machine of a code stays one, by a slice and by a reply.
-use Rattle.std.proofs.Common.{◌≡◌, ℕ, zero, suc, ◌+◌, List, [], ◌∷◌, length, Option, Some, None, true, refl, sym, ap, ◌∙◌, subst}
+use Rattle.std.proofs.Common.{◌≡◌, ℕ, zero, suc, [], ◌∷◌, Option, Some, None, true, refl, sym, ap, ◌∙◌, subst}
 use Rattle.hog_ops.specs.Plain.{Ops}
-use Rattle.hog_ops.specs.Valid.{IsCode}
 use Rattle.hog_meaning.specs.World.{Fixed, Reply}
-use Rattle.vm_course.specs.State.{code_slots, Running, Waiting, Ended, Mode, State}
-use Rattle.vm_course.specs.Step.{step, take_reply}
+use Rattle.vm_course.specs.State.{code_slots, Running, Waiting, Ended, Mode}
+use Rattle.vm_course.specs.Step.{step}
 use Rattle.vm_course.specs.Course.{literals_of_code}
 use Rattle.vm_course.specs.Run.{RunState, begun, fixed_of, one_more, where_running, run_for, resumed}
 use Rattle.vm_course.specs.Belongs.{belongs}

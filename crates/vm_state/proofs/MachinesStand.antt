@@ -1,6 +1,6 @@
 -- A machine of a code stands: what passes the tests of a state is what every state of a run is.
 use Rattle.std.proofs.Common.{◌≡◌, ℕ, zero, suc, ◌-◌, ◌*◌, ◌<◌, ◌≤◌, List, [], ◌∷◌, ◌++◌, length, length-append, reverse, Option, Some, None, Bool, true, false, refl, sym, ap, ◌∙◌, subst, arith}
-use Rattle.std.specs.Prelude.{◌&&◌, not, ◌==◌, nat_lt, nat_eq, unwrap_or, is_some}
+use Rattle.std.specs.Prelude.{not, ◌==◌, nat_lt, nat_eq, unwrap_or, is_some}
 use Rattle.std.specs.List.{AllByRecursion, list_all, list_any}
 use Rattle.std.proofs.lemmas.Bool.{leb-true, ltb-true, le-leb, eqb-true, and_from}
 use Rattle.std.proofs.lemmas.Bool.Decides.{nat_tests}
@@ -17,12 +17,12 @@ use Rattle.vm_course.specs.Run.{RunState}
 use Rattle.vm_course.specs.Belongs.{begins_with, literals_belong, belongs}
 use Rattle.vm_course.specs.States.{names, cell_stands, is_function, frame_stands, later_frames, frames_stand, base_at, reaches, lands, throw_stands, throws_stand, upvalues_stand, globals_stand, is_state}
 use Rattle.vm_state.specs.Laws.{IsMachineOf}
-use Rattle.vm_state.proofs.Alls.{all_back, all_at, all_if}
+use Rattle.vm_state.proofs.Alls.{all_back, all_if}
 use Rattle.vm_operations.proofs.Passing.{both, all_from, list_all-reverse, names_below}
 use Rattle.vm_state.proofs.Facts.{at_end, before_end, other}
 use Rattle.vm_state.proofs.HeapsStand.{CellStands}
 use Rattle.vm_state.proofs.FramesStand.{IsFunction, Choice, Below, Calls, CallsStand}
-use Rattle.vm_state.proofs.UpvaluesStand.{UpvalueStands, NotAt, Apart, UpvaluesStand}
+use Rattle.vm_state.proofs.UpvaluesStand.{UpvalueStands, NotAt, Apart}
 use Rattle.vm_state.proofs.StatesStand.{StateStands}
 use Rattle.vm_state.proofs.IsStates.{back_more, last_base, base_last, LandsIn, at_middle, last_frames, last_height, frames_last, height_last, Falling}
 

@@ -1,5 +1,5 @@
 -- A state stands where what it holds does, and its upvalues do.
-use Rattle.std.proofs.Common.{◌≡◌, List, [], length, Bool, true, false, ◌&&◌, map, refl, ap}
+use Rattle.std.proofs.Common.{◌≡◌, List, [], length, Bool, true, false, ◌&&◌, refl, ap}
 use Rattle.std.proofs.lemmas.List.{length-map, length-reverse, reverse-reverse}
 use Rattle.std.proofs.lemmas.List.Folds.{list_all-map}
 use Rattle.std.specs.Prelude.{reverse}

@@ -1,6 +1,6 @@
 //! Saving and loading a machine.
 
-ghost use Rattle.std.specs.Prelude.{◌≡◌, ◌≢◌, true, false, cond, IfOk, IsTrue, Some, None, Ok, Err, bytes_eq, map, string_bytes, alloc_error};
+ghost use Rattle.std.specs.Prelude.{◌≡◌, ◌≢◌, true, false, cond, IfOk, IsTrue, Some, None, Ok, Err, bytes_eq, map, alloc_error};
 ghost use Rattle.std.specs.List.{AllByRecursion};
 ghost use Rattle.std.specs.Str.{IsUtf8};
 ghost use Rattle.serde_json.specs.View.{view};
@@ -31,16 +31,18 @@ use std::alloc::{AllocError, Global};
 use vm_frames::Table;
 use vm_operations::Machine;
 
-/// The text of a machine. One that has met want of memory answers that.
-pub fn save(alloc: Global, m: &Machine) -> Result<String, AllocError>
-    ensures text { IfOk result (λ t. string_bytes t ≡ state_text m.now.run) }
+/// The text of a machine, as its bytes. One that has met want of memory answers that.
+pub fn save(alloc: Global, m: &Machine) -> Result<Vec<u8>, AllocError>
+    ensures text { IfOk result (λ text. text.items ≡ state_text m.now.run) }
+    ensures utf8 { IfOk result (λ text. IsUtf8 text.items) }
     ensures fits { IfOk result (λ _. SavedFits m.now.run) }
     ensures spent { IsTrue m.now.spent → result ≡ Err alloc_error }
 {
     if m.is_spent() {
         return Err(AllocError);
     }
-    write_machine(alloc, Format::Second, m)
+    let text = write_machine(alloc, Format::Second, m)?;
+    Ok(text.into_bytes())
 }
 
 /// What was read, where it is a state.

@@ -13,7 +13,7 @@ use Rattle.hog_captures.specs.Frees.{name_by}
 use Rattle.hog_captures.specs.Frames.{with_name}
 use Rattle.hog_compiler.specs.Pieces.{one, native_code, loop_code}
 use Rattle.hog_compiler.specs.Code.{called_native, exp_code, exps_code, parts_code, pairs_code, body_code, stm_code}
-use Rattle.hog_compiler.specs.Nesting.{exp_nesting, exps_nesting, parts_nesting, pairs_nesting, body_nesting, stm_nesting, stms_nesting, option_exp_nesting, option_stms_nesting}
+use Rattle.hog_tree.specs.Nesting.{exp_nesting, exps_nesting, parts_nesting, pairs_nesting, body_nesting, stm_nesting, stms_nesting, option_exp_nesting, option_stms_nesting}
 use Rattle.hog_compiler.proofs.Joins.{adds_then, adds_at}
 use Rattle.hog_compiler.proofs.Lists.{adds_more, adds_all, exps_more, parts_more, pairs_more, exps_deep, parts_deep, pairs_deep, stms_deep, exps_counts, parts_counts, pairs_counts, stms_counts}
 use Rattle.hog_compiler.proofs.Frames.{grown_none, grown_after, adds_stm, after_one}

@@ -2,23 +2,23 @@ use Rattle.std.proofs.Common.{◌≡◌, ◌+◌, ◌*◌, take}
 use Rattle.hog_tree.specs.Plain.{NoPart}
 use Rattle.hog_tree.specs.Count.{of_exp, of_exps, of_parts, of_pairs, of_body, of_stm, of_stms, of_option_exp, of_option_stm, of_option_stms}
 use Rattle.hog_tree.specs.View.{exp_of, exps_from, part_of, parts_from, pairs_from, dict_of, body_of, stm_of, stms_from, option_exp_from, option_stm_from, option_stms_from}
-use Rattle.hog_compiler.specs.Adds.{Adds}
+use Rattle.hog_compiler.specs.AddsCode.{AddsCode}
 use Rattle.hog_compiler.specs.Code.{exps_code, parts_code, pairs_code, stms_code}
 use Rattle.hog_compiler.proofs.Frames.{after}
 use Rattle.hog_compiler.proofs.forms.+forms.Given as goal
 
 abbrev pub invariant-exprs-loop-e : goal.invariant-exprs-loop-e
-invariant-exprs-loop-e l = Adds l.fn.out l.out (exps_code l.frame (exps_from (take l.e-index l.e-items)))
+invariant-exprs-loop-e l = AddsCode l.fn.out l.out (exps_code l.frame (exps_from (take l.e-index l.e-items)))
 
 abbrev pub invariant-parts-loop-p : goal.invariant-parts-loop-p
-invariant-parts-loop-p l = Adds l.fn.out l.out (parts_code l.frame (parts_from (take l.p-index l.p-items)))
+invariant-parts-loop-p l = AddsCode l.fn.out l.out (parts_code l.frame (parts_from (take l.p-index l.p-items)))
 
 abbrev pub invariant-dict_items-loop-item : goal.invariant-dict_items-loop-item
-invariant-dict_items-loop-item l = Adds l.fn.out l.out (pairs_code l.frame (pairs_from (take l.item-index l.item-items)))
+invariant-dict_items-loop-item l = AddsCode l.fn.out l.out (pairs_code l.frame (pairs_from (take l.item-index l.item-items)))
 
 abbrev pub invariant-stmts-loop-s : goal.invariant-stmts-loop-s
 invariant-stmts-loop-s l = record {
-  code : Adds l.fn.out l.out (stms_code l.fn.frame (stms_from (take l.s-index l.s-items)));
+  code : AddsCode l.fn.out l.out (stms_code l.fn.frame (stms_from (take l.s-index l.s-items)));
   frame : l.frame ≡ after l.fn.frame (stms_from (take l.s-index l.s-items));
 }
 

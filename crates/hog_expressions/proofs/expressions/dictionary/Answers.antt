@@ -1,4 +1,3 @@
-use Rattle.std.proofs.Common.{◌-◌}
 use Rattle.hog_terms.specs.View.{left}
 use Rattle.hog_reading.proofs.Unfold.{dict_found}
 use Rattle.hog_expressions.proofs.expressions.dictionary.Goals as goal

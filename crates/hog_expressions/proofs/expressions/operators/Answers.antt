@@ -1,4 +1,4 @@
-use Rattle.std.proofs.Common.{◌-◌, ◌<◌, ◌≤◌, true, arith}
+use Rattle.std.proofs.Common.{◌-◌, ◌<◌, ◌≤◌, true, ◌∙◌, arith}
 use Rattle.std.proofs.lemmas.Result.{err_from_is_err_and}
 use Rattle.hog_tree.specs.View.{exp_of}
 use Rattle.hog_terms.specs.Marks.{lead}
@@ -28,6 +28,7 @@ operators-preserved g c =
       low = (let h = c.in_ok-begun.ensures.low in omega (arith, h));
       same = climb_goes (readers (c.args.room - 1)) c.args.room c.args.level (got (exp_of c.operators.begun.tree) c.operators.begun.height (left c.args.tokens.now c.operators.begun.at)) _ _
           go c.if-begun-room.false c.in_ok-begun.ensures.taller c.in_ok-begun.ensures.gives c.operators.invariant.same;
+      placed = c.in_ok-begun.ensures.places ∙ c.operators.invariant.placed;
     }
 
 pub returns-clause-gives : goal.returns-clause-gives

@@ -1,4 +1,4 @@
-use Rattle.std.proofs.Common.{◌≡◌, ◌<◌, ◌≤◌, ◌+◌, ◌^◌, ℕ, [], true, false, sym, ap, subst, ◌∙◌, arith}
+use Rattle.std.proofs.Common.{◌≡◌, ◌<◌, ◌≤◌, ◌+◌, ◌^◌, [], true, sym, ap, subst, ◌∙◌, arith}
 use Rattle.std.specs.Bool.{OnFalse}
 use Rattle.hog_value.specs.Meters.{max_turns}
 use Rattle.vm_course.specs.State.{Running}

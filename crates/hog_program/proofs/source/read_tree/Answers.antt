@@ -1,9 +1,6 @@
-use Rattle.std.proofs.Common.{◌≤◌, [], length, ◌∙◌, arith}
+use Rattle.std.proofs.Common.{◌≤◌, length, ◌∙◌, arith}
 use Rattle.std.proofs.lemmas.Result.{err_from_is_err_and}
-use Rattle.hog_tree.specs.View.{tree_of}
-use Rattle.hog_grammar.specs.Terminal.{terminals}
 use Rattle.hog_program.specs.Source.{longest}
-use Rattle.hog_program.proofs.Nesting.{stms_low}
 use Rattle.hog_program.proofs.Refusals.{lexer_refuses, parser_refuses, tokens_fit, same_err}
 use Rattle.hog_program.proofs.source.read_tree.Goals as goal
 
@@ -26,8 +23,3 @@ pub returns-clause-count : goal.returns-clause-count
 returns-clause-count c =
     let fit = tokens_fit 0 (length c.args.source.now) c.in_ok-tokens.tokens.list c.in_ok-tokens.ensures.in_order in
     omega (arith, fit, c.in_ok-tree.ensures.count)
-
-pub returns-clause-low : goal.returns-clause-low
-returns-clause-low c =
-    let found = c.in_ok-tree.ensures.found in
-    omega (arith, stms_low (tree_of c.in_ok-tree.tree) (terminals c.in_ok-tokens.tokens.text c.in_ok-tokens.tokens.list) [] found.0 found.2, found.1)

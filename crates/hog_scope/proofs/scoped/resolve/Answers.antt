@@ -13,7 +13,7 @@ returns-in_err-step-clause-refused c = λ e is spent.
     (ap (map event_of) c.deref-event-items.ensures.value ∙ c.in_ok-words.ensures.words)
     (ap (filter_map name_in) c.deref-event-items.ensures.value ∙ c.in_ok-words.ensures.names)
     c.loop-event.event-index c.event-item.result c.loop-event-test.true c.event-item.is
-    c.loop-event.resolver c.loop-event.invariant.ran c.loop-event.invariant.named
+    c.loop-event.resolver c.loop-event.invariant.ran c.loop-event.invariant.item_count
     c.from_residual-in_err-step.result c.in_err-step.field-0.0 e
     c.from_residual-in_err-step.ensures.1 c.in_err-step.ensures.stop is spent
 
@@ -24,6 +24,6 @@ loop-event-preserved c =
     record {
       ran = run_more xs i c.event-item.result c.loop-event-test.true c.event-item.is start c.loop-event.resolver c.step.new.self
           c.loop-event.invariant.ran c.in_ok-step.ensures.ok;
-      named = named_more xs i c.event-item.result c.loop-event-test.true c.event-item.is start c.loop-event.resolver c.step.new.self
-          c.loop-event.invariant.named c.in_ok-step.ensures.ok;
+      item_count = named_more xs i c.event-item.result c.loop-event-test.true c.event-item.is start c.loop-event.resolver c.step.new.self
+          c.loop-event.invariant.item_count c.in_ok-step.ensures.ok;
     }

@@ -7,5 +7,5 @@ use Rattle.hog_scope.proofs.scoped.resolve.Given as goal
 abbrev pub invariant-loop-event : goal.invariant-loop-event
 invariant-loop-event l = record {
   ran : run (map event_of (take l.event-index l.event-items)) start ≡ Ok l.resolver;
-  named : length l.resolver.items ≡ length (filter_map name_in (take l.event-index l.event-items));
+  item_count : length l.resolver.items ≡ length (filter_map name_in (take l.event-index l.event-items));
 }

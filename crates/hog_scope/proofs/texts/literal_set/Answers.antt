@@ -1,9 +1,9 @@
-use Rattle.std.proofs.Common.{◌≡◌, ◌≤◌, ◌+◌, map, Some, None, sym, ap, ap₂, ◌∙◌, arith}
+use Rattle.std.proofs.Common.{◌≡◌, ◌+◌, map, Some, sym, ap, ◌∙◌, arith}
 use Rattle.std.specs.Prelude.{slice_get}
 use Rattle.std.specs.Option.{option_copied}
 use Rattle.hog_scope.specs.Events.{event_of}
-use Rattle.hog_scope.specs.Literals.{named, text_of}
-use Rattle.hog_scope.proofs.LiteralLemmas.{item_got, named-le, counted_more, collected_none, collected_some}
+use Rattle.hog_scope.specs.Literals.{text_of}
+use Rattle.hog_scope.proofs.LiteralLemmas.{item_got, item_count-le, counted_more, collected_none, collected_some}
 use Rattle.hog_scope.proofs.texts.literal_set.Goals as goal
 use Rattle.hog_scope.proofs.texts.literal_set.Goals.{in-Some+in_ok-insert, in_default}
 
@@ -18,8 +18,8 @@ loop-event-preserved c =
     let text : option_copied c.text_of.result ≡ text_of (event_of x) (slice_get items next) =
     c.text_of.ensures ∙ ap (text_of (event_of x)) (c.copied.ensures ∙ item_got items next c.get.result c.get.ensures.lookup) in
     record {
-      few = (let one = named-le (event_of x) in let is = c.named-next.ensures in let few = c.loop-event.invariant.few in omega (arith, one, is, few));
-      counted = ap (λ n. next + n) c.named-next.ensures ∙ counted_more xs i x c.loop-event-test.true c.event-item.is items next c.loop-event.invariant.counted;
+      few = (let one = item_count-le (event_of x) in let is = c.item_count-next.ensures in let few = c.loop-event.invariant.few in omega (arith, one, is, few));
+      counted = ap (λ n. next + n) c.item_count-next.ensures ∙ counted_more xs i x c.loop-event-test.true c.event-item.is items next c.loop-event.invariant.counted;
       collected = elim c.match-text_of.branch [
         | in-Some+in_ok-insert w ↦
             ap (λ s. map (λ t. t.now) s.keys) w.texts-is

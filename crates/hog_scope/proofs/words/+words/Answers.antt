@@ -4,8 +4,8 @@ use Rattle.std.proofs.lemmas.Result.{on_ok_weaker}
 use Rattle.hog_tree.specs.declared.tree.Stmt as s
 use Rattle.hog_tree.specs.View.{dict_of}
 use Rattle.hog_scope.specs.Words.{Calls, pairs_words}
-use Rattle.hog_scope.specs.Places.{dict_names, body_names, exp_names, stm_names}
-use Rattle.hog_scope.specs.Events.{Adds, expr_words, item_words, item_names, arrow_words, stmt_words}
+use Rattle.hog_tree.specs.Names.{dict_names, body_names, exp_names, stm_names}
+use Rattle.hog_scope.specs.Events.{AddsEvents, expr_words, item_words, item_names, arrow_words, stmt_words}
 use Rattle.hog_scope.proofs.Added.{adds_then, adds_and, adds_scope, adds_at, adds_all}
 use Rattle.hog_scope.proofs.Rows.{dict_rows, dict_named}
 use Rattle.hog_scope.proofs.Forms as form
@@ -17,7 +17,7 @@ arrow_body-returns-in-Block t c = on_ok_weaker _ (adds_at arrow_words body_names
 pub dict_items-returns : goal.dict_items-returns
 dict_items-returns t c =
     adds_at (λ ds. pairs_words (dict_of ds)) dict_names {x = c.args.ds.now} refl (dict_rows c.args.ds.now) (dict_named c.args.ds.now)
-    (subst (λ ds. Adds c.args.out.now c.loop-item.out (flat_map item_words ds) (flat_map item_names ds)) c.deref-item-items.ensures.value
+    (subst (λ ds. AddsEvents c.args.out.now c.loop-item.out (flat_map item_words ds) (flat_map item_names ds)) c.deref-item-items.ensures.value
     (adds_all (flat_map item_words) (flat_map item_names) c.deref-item-items.result.now c.loop-item.item-index c.loop-item-test.false c.loop-item.invariant))
 
 pub expr-returns-in-Name-deref : goal.expr-returns-in-Name-deref
@@ -25,7 +25,7 @@ expr-returns-in-Name-deref t c =
     let is = sym c.deref.ensures ∙ c.in-Name-deref.is in
     on_ok_weaker _ (λ last. adds_at expr_words exp_names c.in-Call.is
     (form.named_call_words c.in-Call.callee c.in-Call.args c.in-Name-deref.name is) (form.named_call_names c.in-Call.callee c.in-Call.args c.in-Name-deref.name is)
-    (adds_then (subst (λ n. Adds c.args.out.now c.put-in-Name-deref.new.out (Calls c.in-Name-deref.name.word n ∷ []) (c.in-Name-deref.name ∷ [])) (c.len.ensures ∙ c.in-Call.args.list.ok.0) c.in_ok-put-in-Call.ensures) last)) c.exprs-in-Name-deref.ensures
+    (adds_then (subst (λ n. AddsEvents c.args.out.now c.put-in-Name-deref.new.out (Calls c.in-Name-deref.name.word n ∷ []) (c.in-Name-deref.name ∷ [])) (c.len.ensures ∙ c.in-Call.args.list.ok.0) c.in_ok-put-in-Call.ensures) last)) c.exprs-in-Name-deref.ensures
 
 pub expr-returns-in-Template : goal.expr-returns-in-Template
 expr-returns-in-Template t c = on_ok_weaker _ (adds_at expr_words exp_names c.in-Template.is (form.template_words c.in-Template.list) (form.template_names c.in-Template.list)) c.parts.ensures
@@ -37,7 +37,7 @@ pub expr-returns-in_ok-expr-in-Call : goal.expr-returns-in_ok-expr-in-Call
 expr-returns-in_ok-expr-in-Call t c =
     on_ok_weaker _ (λ last. adds_at expr_words exp_names c.in-Call.is
     (form.other_call_words c.in-Call.callee c.in-Call.args (λ n is. c.in_default.not-Name n (c.deref.ensures ∙ is))) (form.call_names c.in-Call.callee c.in-Call.args)
-    (adds_then (subst (λ x. Adds c.args.out.now c.expr.new.out (expr_words x) (exp_names x)) c.deref-in-Call.ensures c.in_ok-expr-in-Call.ensures) last)) c.exprs-in-Call.ensures
+    (adds_then (subst (λ x. AddsEvents c.args.out.now c.expr.new.out (expr_words x) (exp_names x)) c.deref-in-Call.ensures c.in_ok-expr-in-Call.ensures) last)) c.exprs-in-Call.ensures
 
 pub stmt-returns-in_ok-expr-in-Assign : goal.stmt-returns-in_ok-expr-in-Assign
 stmt-returns-in_ok-expr-in-Assign t c =
@@ -65,7 +65,7 @@ pub stmt-returns-in_ok-block-in-For : goal.stmt-returns-in_ok-block-in-For
 stmt-returns-in_ok-block-in-For t c =
     on_ok_weaker _ (λ last. adds_at stmt_words stm_names c.in-For.is (form.for_words c.in-For.start c.in-For.cond c.in-For.step c.in-For.body) (form.for_names c.in-For.start c.in-For.cond c.in-For.step c.in-For.body)
     (adds_scope c.in_ok-put-in-For.ensures
-    (adds_then (adds_then (adds_then c.in_ok-option_stmt-in-For.ensures c.in_ok-option_expr-in-For.ensures) c.in_ok-option_stmt-in-For-2.ensures) c.in_ok-block-in-For.ensures)
+    (adds_then (adds_then (adds_then c.in_ok-option_stmt-in-For.ensures c.in_ok-option_expr-in-For.ensures) c.in_ok-option_step-in-For.ensures) c.in_ok-block-in-For.ensures)
     last)) c.put-in-For-2.ensures
 
 pub stmt-returns-in_ok-block-in-ForIn : goal.stmt-returns-in_ok-block-in-ForIn

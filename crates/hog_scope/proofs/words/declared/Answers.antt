@@ -1,4 +1,3 @@
-use Rattle.hog_scope.proofs.Forms.{array_words, while_names}
 use Rattle.std.proofs.lemmas.Result.{on_ok_weaker}
 use Rattle.hog_scope.proofs.Added.{adds_then}
 use Rattle.hog_scope.proofs.words.declared.Goals as goal

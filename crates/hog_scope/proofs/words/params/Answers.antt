@@ -1,8 +1,7 @@
-use Rattle.std.proofs.Common.{◌++◌, refl, subst, ◌∙◌, sym}
-use Rattle.std.proofs.lemmas.List.{take_all}
+use Rattle.std.proofs.Common.{refl, subst}
 use Rattle.hog_tree.specs.View.{words_of}
 use Rattle.hog_scope.specs.Words.{all_declared}
-use Rattle.hog_scope.specs.Events.{Adds}
+use Rattle.hog_scope.specs.Events.{AddsEvents}
 use Rattle.hog_scope.proofs.Added.{adds_nothing, adds_more, adds_all}
 use Rattle.hog_scope.proofs.Rows.{all_declared-append}
 use Rattle.hog_scope.proofs.words.params.Goals as goal
@@ -18,5 +17,5 @@ loop-name-preserved c =
 
 pub returns : goal.returns
 returns c =
-    subst (λ ns. Adds c.args.out.now c.loop-name.out (all_declared (words_of ns)) ns) c.items-name-items.ensures
+    subst (λ ns. AddsEvents c.args.out.now c.loop-name.out (all_declared (words_of ns)) ns) c.items-name-items.ensures
     (adds_all (λ ns. all_declared (words_of ns)) (λ ns. ns) c.items-name-items.result.now c.loop-name.name-index c.loop-name-test.false c.loop-name.invariant)

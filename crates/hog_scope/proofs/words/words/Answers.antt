@@ -1,4 +1,4 @@
-use Rattle.std.proofs.Common.{[], map, sym, ap, ◌∙◌, ◌++◌}
+use Rattle.std.proofs.Common.{map, sym, ap, ◌∙◌, ◌++◌}
 use Rattle.std.specs.List.{flat_map}
 use Rattle.hog_scope.specs.Events.{event_of, stmt_words}
 use Rattle.hog_scope.proofs.Runs.{stms_listed}

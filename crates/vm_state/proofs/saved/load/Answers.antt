@@ -2,12 +2,10 @@ use Rattle.std.proofs.Common.{◌≡◌, ℕ, List, ap, ◌∙◌, subst}
 use Rattle.std.specs.Prelude.{Result, Ok, Err, IfOk}
 use Rattle.std.specs.Str.{IsUtf8}
 use Rattle.hog_ops.specs.Plain.{Ops}
-use Rattle.vm_course.specs.Run.{RunState}
 use Rattle.vm_operations.specs.Machine.{MachineView}
 use Rattle.vm_state.specs.declared.stop.StateStop.{StateStop}
-use Rattle.vm_state.specs.declared.parts.Format.TheVariants.{First}
 use Rattle.vm_state.specs.Laws.{SavedFits}
-use Rattle.vm_state.specs.Text.{Answers, load_of, text_in, state_text}
+use Rattle.vm_state.specs.Text.{Answers, load_of}
 use Rattle.vm_state.proofs.Loading.{loads_saved, loads_old}
 use Rattle.vm_state.proofs.Formats.{has_format, saves_loaded, loads_states}
 use Rattle.vm_state.proofs.saved.load.Goals as goal

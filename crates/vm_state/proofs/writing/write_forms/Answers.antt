@@ -1,11 +1,11 @@
-use Rattle.std.proofs.Common.{map, sym, ap, ◌∙◌, subst}
+use Rattle.std.proofs.Common.{map, ap, ◌∙◌, subst}
 use Rattle.std.specs.Prelude.{IfSome}
 use Rattle.std.specs.List.{AllByRecursion}
 use Rattle.std.proofs.Common.{◌<◌, ◌^◌}
 use Rattle.state_forms.specs.Shapes.{list, number_data, maybe_data}
 use Rattle.state_forms.specs.Shown.{item_data}
 use Rattle.state_forms.specs.Values.{cell_data, CellFits}
-use Rattle.vm_state.proofs.Lending.{Lends, AreForms, HaveFit, same_forms, lists_fit}
+use Rattle.vm_state.proofs.Lending.{same_forms, lists_fit}
 use Rattle.vm_state.proofs.writing.write_forms.Goals as goal
 
 pub returns-clause-form : goal.returns-clause-form

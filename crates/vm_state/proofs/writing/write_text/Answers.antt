@@ -1,6 +1,5 @@
-use Rattle.std.proofs.Common.{◌≡◌, ap, ◌∙◌}
+use Rattle.std.proofs.Common.{ap, ◌∙◌}
 use Rattle.vm_state.proofs.Outcomes.{IfOk_then}
-use Rattle.serde_json.specs.View.{view}
 use Rattle.serde_json.specs.Written.{compact_text, has_float}
 use Rattle.plain_json.proofs.Fine.{no_float}
 use Rattle.state_forms.specs.Shapes.{list}

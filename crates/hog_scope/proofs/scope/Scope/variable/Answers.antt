@@ -1,4 +1,4 @@
-use Rattle.std.proofs.Common.{sym, ap, ◌∙◌}
+use Rattle.std.proofs.Common.{ap, ◌∙◌}
 use Rattle.hog_scope.specs.Scopes.{variable_in}
 use Rattle.hog_scope.proofs.Shown.{shown, lookup-shown}
 use Rattle.hog_scope.proofs.scope.Scope.variable.Goals as goal

@@ -1,5 +1,5 @@
 use Rattle.std.proofs.Common.{length, ap, ◌∙◌}
-use Rattle.hog_scope.specs.Places.{tree_names}
+use Rattle.hog_tree.specs.Names.{tree_names}
 use Rattle.hog_scope.proofs.Counts.{items_counted}
 use Rattle.hog_scope.proofs.scoped.Scoped.items.Goals as goal
 

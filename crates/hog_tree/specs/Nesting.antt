@@ -2,7 +2,7 @@
 use Rattle.std.specs.Prelude.{ℕ, suc, max}
 use Rattle.hog_tree.specs.Plain.{Exp, Exps, Parts, Pairs, Body, Stm, Stms, OptionExp, OptionStm, OptionStms, Int, Truth, Null, Text, Template, Name, Array, Dict, Neg, Not, Binary, Coalesce, Prop, PropNullish, Index, Call, Lambda, NoExp, MoreExp, NoPart, MoreText, MoreHole, NoPair, MorePair, OneExp, ManyStms, Let, Assign, Do, Return, Throw, If, While, For, ForIn, Fun, Try, Block, Done, Then, NoneExp, SomeExp, NoneStm, SomeStm, NoneStms, SomeStms}
 
--- of functions in one another so many can be compiled
+-- functions in one another, this many at most, can be compiled
 abbrev pub deepest : ℕ
 deepest = 1000
 
