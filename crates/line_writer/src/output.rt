@@ -1,8 +1,8 @@
 //! The write loop.
 
-ghost use Rattle.std.specs.Prelude.{◌≡◌, ◌≤◌, ◌++◌, [], ◌∷◌, OnOk, OnErr};
+ghost use Rattle.std.specs.Prelude.{◌≡◌, ◌<◌, ◌≤◌, ◌++◌, [], ◌∷◌, length, OnOk, OnErr};
 ghost use Rattle.hog_outside.specs.Faults.{Rose};
-ghost use Rattle.line_writer.specs.Added.{Adds, AddsPrefix};
+ghost use Rattle.line_writer.specs.Added.{AddsBytes, AddsPrefix};
 ghost use Rattle.hog_json.specs.Lines.{ended, trace_lines};
 ghost use Rattle.line_writer.specs.Lines.{end_lines, output_of, rest_line, run_output};
 
@@ -54,7 +54,7 @@ impl<T: Drop> From<AllocFailed<T>> for OutputStop {
 
 /// Hands a piece to the sink, and goes on where a write stopped, until all of it is taken.
 pub fn write_whole<W: Sink>(sink: &mut W, piece: &[u8]) -> Result<(), Failed>
-    ensures ok { OnOk result (Adds (W.taken sink.old) (W.taken sink.new) piece.now) }
+    ensures ok { OnOk result (AddsBytes (W.taken sink.old) (W.taken sink.new) piece.now) }
     ensures prefix { AddsPrefix (W.taken sink.old) (W.taken sink.new) piece.now }
     ensures failed { OnErr result (Rose (W.faults sink.old) (W.faults sink.new)) }
     ensures count { W.faults sink.old ≤ W.faults sink.new }
@@ -66,9 +66,38 @@ pub fn write_whole<W: Sink>(sink: &mut W, piece: &[u8]) -> Result<(), Failed>
     Ok(())
 }
 
+/// Hands a text to the sink line by line, each line with its line feed in one piece. Behind the last line feed there may be a
+/// line without one.
+pub fn write_lines<W: Sink>(sink: &mut W, text: &[u8]) -> Result<(), Failed>
+    ensures ok { OnOk result (AddsBytes (W.taken sink.old) (W.taken sink.new) text.now) }
+    ensures prefix { AddsPrefix (W.taken sink.old) (W.taken sink.new) text.now }
+    ensures failed { OnErr result (Rose (W.faults sink.old) (W.faults sink.new)) }
+    ensures count { W.faults sink.old ≤ W.faults sink.new }
+{
+    let mut at = 0;
+    while at < text.len() {
+        let end = line_end(text, at);
+        write_whole(sink, &text[at..end])?;
+        at = end;
+    }
+    Ok(())
+}
+
+/// Where the line ends that begins at a place: behind its line feed, or at the end of the text.
+fn line_end(text: &[u8], from: usize) -> usize
+    requires { from < length text.now }
+    ensures after { from < result }
+    ensures within { result ≤ length text.now }
+{
+    match text[from..].iter().position(|byte| *byte == b'\n') {
+        Some(n) => from + n + 1,
+        None => text.len(),
+    }
+}
+
 /// Hands a line and its line feed to the sink in one piece.
 pub fn write_line<W: Sink>(alloc: Global, sink: &mut W, line: &HogText) -> Result<(), OutputStop>
-    ensures ok { OnOk result (Adds (W.taken sink.old) (W.taken sink.new) (ended line.now)) }
+    ensures ok { OnOk result (AddsBytes (W.taken sink.old) (W.taken sink.new) (ended line.now)) }
     ensures prefix { AddsPrefix (W.taken sink.old) (W.taken sink.new) (ended line.now) }
     ensures failed { result ≡ Err OutputStop.Failed
         → Rose (W.faults sink.old) (W.faults sink.new) }
@@ -86,7 +115,7 @@ pub fn write_trace<W: Sink>(
     sink: &mut W,
     items: &[TraceItem],
 ) -> Result<(), OutputStop>
-    ensures ok { OnOk result (Adds (W.taken sink.old) (W.taken sink.new) (trace_lines items.now)) }
+    ensures ok { OnOk result (AddsBytes (W.taken sink.old) (W.taken sink.new) (trace_lines items.now)) }
     ensures prefix { AddsPrefix (W.taken sink.old) (W.taken sink.new) (trace_lines items.now) }
     ensures failed { result ≡ Err OutputStop.Failed
         → Rose (W.faults sink.old) (W.faults sink.new) }
@@ -101,7 +130,7 @@ pub fn write_trace<W: Sink>(
 
 /// Writes the line of an end, where there is one.
 pub fn write_end<W: Sink>(alloc: Global, sink: &mut W, end: &Option<End>) -> Result<(), OutputStop>
-    ensures ok { OnOk result (Adds (W.taken sink.old) (W.taken sink.new) (end_lines end.now)) }
+    ensures ok { OnOk result (AddsBytes (W.taken sink.old) (W.taken sink.new) (end_lines end.now)) }
     ensures prefix { AddsPrefix (W.taken sink.old) (W.taken sink.new) (end_lines end.now) }
     ensures failed { result ≡ Err OutputStop.Failed
         → Rose (W.faults sink.old) (W.faults sink.new) }
@@ -118,7 +147,7 @@ pub fn write_end<W: Sink>(alloc: Global, sink: &mut W, end: &Option<End>) -> Res
 
 /// Writes the lines of a run.
 pub fn write_shown<W: Sink>(alloc: Global, sink: &mut W, shown: &Shown) -> Result<(), OutputStop>
-    ensures ok { OnOk result (Adds (W.taken sink.old) (W.taken sink.new) (output_of shown.now)) }
+    ensures ok { OnOk result (AddsBytes (W.taken sink.old) (W.taken sink.new) (output_of shown.now)) }
     ensures prefix { AddsPrefix (W.taken sink.old) (W.taken sink.new) (output_of shown.now) }
     ensures failed { result ≡ Err OutputStop.Failed
         → Rose (W.faults sink.old) (W.faults sink.new) }
@@ -130,7 +159,7 @@ pub fn write_shown<W: Sink>(alloc: Global, sink: &mut W, shown: &Shown) -> Resul
 
 /// Writes the line of an end, or that a run waits, where there is none.
 fn write_rest<W: Sink>(alloc: Global, sink: &mut W, end: &Option<End>) -> Result<(), OutputStop>
-    ensures ok { OnOk result (Adds (W.taken sink.old) (W.taken sink.new) (rest_line end.now)) }
+    ensures ok { OnOk result (AddsBytes (W.taken sink.old) (W.taken sink.new) (rest_line end.now)) }
     ensures prefix { AddsPrefix (W.taken sink.old) (W.taken sink.new) (rest_line end.now) }
     ensures failed { result ≡ Err OutputStop.Failed
         → Rose (W.faults sink.old) (W.faults sink.new) }
@@ -147,7 +176,7 @@ fn write_rest<W: Sink>(alloc: Global, sink: &mut W, end: &Option<End>) -> Result
 
 /// Writes the lines of a run that went as far as it can: its trace, and then its end, or that it waits.
 pub fn write_run<W: Sink>(alloc: Global, sink: &mut W, shown: &Shown) -> Result<(), OutputStop>
-    ensures ok { OnOk result (Adds (W.taken sink.old) (W.taken sink.new) (run_output shown.now.trace shown.now.end)) }
+    ensures ok { OnOk result (AddsBytes (W.taken sink.old) (W.taken sink.new) (run_output shown.now.trace shown.now.end)) }
     ensures prefix { AddsPrefix (W.taken sink.old) (W.taken sink.new) (run_output shown.now.trace shown.now.end) }
     ensures failed { result ≡ Err OutputStop.Failed
         → Rose (W.faults sink.old) (W.faults sink.new) }

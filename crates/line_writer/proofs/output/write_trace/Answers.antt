@@ -1,13 +1,13 @@
 use Rattle.std.proofs.Common.{ℕ, List, arith, subst}
-use Rattle.line_writer.specs.Added.{Adds, AddsPrefix}
+use Rattle.line_writer.specs.Added.{AddsBytes, AddsPrefix}
 use Rattle.hog_json.specs.Lines.{ended, trace_line}
-use Rattle.line_writer.proofs.AddedLemmas.{Adds-item, AddsPrefix-item, AddsPrefix-items, AddsPrefix-all}
+use Rattle.line_writer.proofs.AddedLemmas.{AddsBytes-item, AddsPrefix-item, AddsPrefix-items, AddsPrefix-all}
 use Rattle.line_writer.proofs.output.write_trace.Goals as goal
 
 pub loop-item-preserved : goal.loop-item-preserved
 loop-item-preserved g c =
-    let line = subst (λ (text : List ℕ). Adds (g.W.Sink.taken c.loop-item.sink) (g.W.Sink.taken c.write_line.new.sink) (ended text)) c.in_ok-line.ensures c.in_ok-write_line.ensures.ok in
-    (Adds-item (λ item. ended (trace_line item)) c.args.items.now c.loop-item.item-index c.item-item.result c.loop-item-test.true c.item-item.is c.loop-item.invariant.0 line, omega arith)
+    let line = subst (λ (text : List ℕ). AddsBytes (g.W.Sink.taken c.loop-item.sink) (g.W.Sink.taken c.write_line.new.sink) (ended text)) c.in_ok-line.ensures c.in_ok-write_line.ensures.ok in
+    (AddsBytes-item (λ item. ended (trace_line item)) c.args.items.now c.loop-item.item-index c.item-item.result c.loop-item-test.true c.item-item.is c.loop-item.invariant.0 line, omega arith)
 
 pub returns-in_err-line-clause-prefix : goal.returns-in_err-line-clause-prefix
 returns-in_err-line-clause-prefix g c =
