@@ -3,3 +3,4 @@ pub mod Rooms
 pub mod Found
 pub mod Moves
 pub mod Walks
+pub mod Flushed

@@ -14,6 +14,7 @@ use Rattle.cyclotron_jobs.specs.declared.entry.Entry.{Entry}
 use Rattle.cyclotron_jobs.specs.declared.row.Next.{Next}
 use Rattle.cyclotron_jobs.specs.declared.row.Next.TheVariants as next
 use Rattle.cyclotron_jobs.specs.declared.row.JobState.TheVariants.{Available, Running, Completed, Failed}
+use Rattle.queue_history.specs.declared.TheConstants.{MOST_JOBS}
 use Rattle.queue_history.specs.Rules.{InputRule, CourseRule, ReplyRule}
 use Rattle.queue_history.specs.Facts.{is_taken, state_after, swept_state}
 use Rattle.queue_history.specs.Legal.{MayFollow}
@@ -124,7 +125,7 @@ module _ {takes : InputRule} {on_course : CourseRule} {reply_ok : ReplyRule} {te
   }
 
   pub IsQueue-enqueue : {held' : ℕ → Option Row} {row : Row} {job : ℕ} {input : JobInput} {priority : ℤ} {at : ℕ} {lists' : ListsOf} (room : Vec Reply Global)
-      → IsNewRow row job input priority at → job ≡ length rows → job < 16384 → takes input → on_course input [] 0 [] shows_nothing after.Hog
+      → IsNewRow row job input priority at → job ≡ length rows → job < MOST_JOBS → takes input → on_course input [] 0 [] shows_nothing after.Hog
       → PutsRow tells held held' row → IsListing (rows ++ row ∷ []) lists'
       → IsQueue takes on_course reply_ok tells (rows ++ row ∷ []) (history ++ Queued job priority at ∷ []) drawn held' (rooms ++ room ∷ []) lists'
   IsQueue-enqueue {row = row} room new number few taken begins put listed = record {

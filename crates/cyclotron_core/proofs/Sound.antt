@@ -10,6 +10,7 @@ use Rattle.cyclotron_jobs.specs.declared.row.After.TheVariants as after
 use Rattle.cyclotron_jobs.specs.declared.entry.Entry.{Entry}
 use Rattle.cyclotron_jobs.specs.declared.entry.Entry.TheVariants.{Queued}
 use Rattle.cyclotron_jobs.specs.Course.{shows_nothing}
+use Rattle.queue_history.specs.declared.TheConstants.{MOST_JOBS}
 use Rattle.queue_history.specs.Rules.{InputRule, CourseRule, ReplyRule}
 use Rattle.queue_history.specs.Facts.{is_taken, takes_of}
 use Rattle.queue_history.specs.Legal.{MayFollow}
@@ -59,7 +60,7 @@ module _ {takes : InputRule} {on_course : CourseRule} {reply_ok : ReplyRule} {te
       }
 
   pub IsSound-enqueue : {row : Row} {job : ℕ} {input : JobInput} {priority : ℤ} {at : ℕ}
-      → IsNewRow row job input priority at → job ≡ length rows → job < 16384 → takes input → on_course input [] 0 [] shows_nothing after.Hog
+      → IsNewRow row job input priority at → job ≡ length rows → job < MOST_JOBS → takes input → on_course input [] 0 [] shows_nothing after.Hog
       → PutsRow tells held held' row
       → IsSound takes on_course reply_ok tells (rows ++ row ∷ []) (history ++ Queued job priority at ∷ []) drawn held'
   IsSound-enqueue {row} {job} {input} {priority} {at} new number few taken begins put = record {

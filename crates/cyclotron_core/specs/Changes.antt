@@ -12,6 +12,7 @@ use Rattle.cyclotron_jobs.specs.declared.entry.Entry.{Entry}
 use Rattle.cyclotron_jobs.specs.declared.entry.Entry.TheVariants.{Queued, Taken, Swept}
 use Rattle.cyclotron_jobs.specs.Course.{next_of, asks_of}
 use Rattle.cyclotron_jobs.specs.Leases.{LeaseOf, AdvanceOf}
+use Rattle.queue_history.specs.declared.TheConstants.{MOST_JOBS}
 use Rattle.queue_history.specs.Facts.{facts_of, jobs_of, takes_of, queue_at, state_after, swept_state}
 use Rattle.queue_history.specs.Due.{IsFirstDue, IsFirstStale}
 use Rattle.queue_history.specs.Rows.{IsNewRow}
@@ -79,6 +80,13 @@ pub record IsUntouched {K : Type 0} (tells : Bool) (held : K → ℕ → Option 
   pub told : SameRows tells (held old.keeper) (held new.keeper)
   pub spare : old.spare ≤ new.spare
 
+-- nothing changed but the room for more entries, and none of it was lost
+pub record IsGrown {K : Type 0} (old new : QueueOf K) : Type 0 where
+  pub rows : new.rows ≡ old.rows
+  pub history : new.history ≡ old.history
+  pub keeper : new.keeper ≡ old.keeper
+  pub spare : old.spare ≤ new.spare
+
 -- a new job with the next number was added, with a row of its own
 pub record IsEnqueue {K : Type 0} (tells : Bool) (held : K → ℕ → Option Row) (old new : QueueOf K) (job : ℕ) (input : JobInput) (priority : ℤ) (at : ℕ) : Type 0 where
   pub number : job ≡ jobs_of old.history
@@ -129,7 +137,7 @@ is_unfinished row = is_open row.state
 -- a row in this state stands at the place
 pub record HasState (rows : List Row) (is : JobState) (at : ℕ) : Type 0 where
   pub within : at < length rows
-  pub few : at < 16384
+  pub few : at < MOST_JOBS
   pub row : Row
   pub there : slice_get rows at ≡ Some row
   pub state : row.state ≡ is

@@ -4,3 +4,4 @@ pub mod Queue
 pub mod Changes
 pub mod Puts
 pub mod Refusals
+pub mod Flushes

@@ -6,6 +6,8 @@ use Rattle.cyclotron_jobs.specs.declared.refused.LeaseStop.TheVariants as lease
 use Rattle.job_keeper.specs.declared.keeper.KeepStop.{KeepStop}
 use Rattle.job_keeper.specs.declared.keeper.KeepStop.TheVariants as keep
 use Rattle.job_keeper.specs.Held.{PutsRow, SameRows}
+use Rattle.cyclotron_core.specs.declared.stop.EnqueueStop.{EnqueueStop}
+use Rattle.cyclotron_core.specs.declared.stop.EnqueueStop.TheVariants as enqueue
 use Rattle.cyclotron_core.specs.declared.stop.TakeStop.{TakeStop}
 use Rattle.cyclotron_core.specs.declared.stop.TakeStop.TheVariants as take
 
@@ -36,3 +38,8 @@ TakeFails rose take.Keeper = rose
 abbrev pub take_stop_of : KeepStop → TakeStop
 take_stop_of keep.Failed = take.Keeper
 take_stop_of keep.OutOfMemory = take.OutOfMemory
+
+-- how a call that adds a job is refused, where its row is
+abbrev pub enqueue_stop_of : TakeStop → EnqueueStop
+enqueue_stop_of take.OutOfMemory = enqueue.OutOfMemory
+enqueue_stop_of take.Keeper = enqueue.Keeper

@@ -1,6 +1,6 @@
 //! A queue of leased jobs.
 
-ghost use Rattle.std.specs.Prelude.{ℕ, ◌≡◌, ◌≤◌, ◌<◌, ◌+◌, ◌↔◌, [], length, true, None, Some, OnOk, OnErr, IfOk, IfErr, IfNone, IfSome, IsOk, IsTrue, IsNone, IsErrAnd, MatchOption, count_by, slice_get, Option};
+ghost use Rattle.std.specs.Prelude.{ℕ, ◌≡◌, ◌≤◌, ◌<◌, ◌+◌, ◌↔◌, [], length, true, None, Some, OnOk, OnErr, IfOk, IfErr, IfNone, IfSome, IsOk, IsTrue, IsNone, MatchOption, count_by, slice_get, Option, vec_len, vec_capacity};
 ghost use Rattle.std.specs.Bool.{OnFalse};
 ghost use Rattle.std.specs.Option.{option_copied};
 ghost use Rattle.lock_ids.specs.declared.lock.LockId.{LockId};
@@ -9,7 +9,8 @@ ghost use Rattle.queue_history.specs.Facts.{facts_of, jobs_of, takes_of};
 ghost use Rattle.queue_history.specs.Due.{NoneDue, IsFirstDue, IsDueRow, turn_cmp, turn_of_row, NoneStale, IsFirstStale, IsStaleRow, silence_cmp, silence_of_row};
 ghost use Rattle.queue_history.specs.Rows.{IsKept, IsOnCourse, RowIs, IsNewRow};
 ghost use Rattle.cyclotron_core.specs.Queue.{HoldsRows};
-ghost use Rattle.cyclotron_core.specs.Changes.{IsOneStep, IsUntouched, IsEnqueue, IsTake, IsSweep, IsLeaseAt, HasState, is_unfinished, row_after_beat, row_after_run, row_after_reply, row_after_put_back};
+ghost use Rattle.cyclotron_core.specs.Changes.{IsOneStep, IsUntouched, IsEnqueue, IsTake, IsSweep, IsLeaseAt, HasState, IsGrown, is_unfinished, row_after_beat, row_after_run, row_after_reply, row_after_put_back};
+ghost use Rattle.cyclotron_core.specs.Flushes.{Flushes};
 ghost use Rattle.cyclotron_core.specs.Refusals.{IsOwner, IsOwnedBy, BeganAt, RunBegan, AnswerBegan, KeeperRose, Refuses, Finds, FindFails};
 
 use crate::listing::{LISTS, RUNNING, move_job, place, waiting};
@@ -27,15 +28,11 @@ use hog_value::trace::{Shown, Trace};
 use index_lists::Lists;
 use job_keeper::keeper::Keeper;
 use lock_ids::lock::LockId;
+use queue_history::MOST_JOBS;
+use queue_history::turn::is_silent;
 use std::alloc::{AllocError, Global};
 use std::marker::{Model, PhantomData};
 use std::snapshot::Snapshot;
-
-/// How many jobs a queue has at most.
-const MOST_JOBS: usize = 16384;
-
-/// How many milliseconds after its last beat a running job may be swept.
-const STALE_AFTER: u64 = 30000;
 
 /// A queue of leased jobs. Moments are in milliseconds.
 #[derive(Drop)]
@@ -144,7 +141,7 @@ impl<C: Course, K: Keeper> QueueState<C, K> {
     pub fn enqueue(&mut self, input: JobInput, priority: i16, at: u64) -> Result<u32, EnqueueStop>
         requires { C.takes input }
         ensures ok { IfOk result (λ job. IsEnqueue K.tells K.held self.old self.new job input priority at) }
-        ensures full { (result ≡ Err EnqueueStop.Full) ↔ (16384 ≤ jobs_of self.old.history) }
+        ensures full { (result ≡ Err EnqueueStop.Full) ↔ (MOST_JOBS ≤ jobs_of self.old.history) }
         ensures keeper { result ≡ Err EnqueueStop.Keeper → KeeperRose K.faults self.old self.new }
         ensures err { OnErr result (IsUntouched K.tells K.held self.old self.new) }
         ensures count { K.faults self.old.keeper ≤ K.faults self.new.keeper }
@@ -159,11 +156,7 @@ impl<C: Course, K: Keeper> QueueState<C, K> {
         self.history.reserve(1)?;
         self.lists.reserve(job + 1)?;
         let row = new_row(alloc, job, input, priority, at);
-        match put_new(&row, &mut self.keeper) {
-            Err(TakeStop::Keeper) => return Err(EnqueueStop::Keeper),
-            Err(TakeStop::OutOfMemory) => return Err(EnqueueStop::OutOfMemory),
-            Ok(()) => {}
-        }
+        put_new(&row, &mut self.keeper)?;
         self.rows.push_reserved(row);
         self.rooms.push_reserved(Vec::new(alloc));
         place(&mut self.lists, self.rows.as_slice(), job);
@@ -173,8 +166,8 @@ impl<C: Course, K: Keeper> QueueState<C, K> {
     }
 
     fn is_full(&self) -> bool
-        ensures full { IsTrue result ↔ (16384 ≤ jobs_of self.now.history) }
-        ensures room { OnFalse result (length self.now.rows < 16384) }
+        ensures full { IsTrue result ↔ (MOST_JOBS ≤ jobs_of self.now.history) }
+        ensures room { OnFalse result (length self.now.rows < MOST_JOBS) }
         ensures jobs { length self.now.rows ≡ jobs_of self.now.history }
     {
         self.rows.len() >= MOST_JOBS
@@ -194,20 +187,11 @@ impl<C: Course, K: Keeper> QueueState<C, K> {
         };
         let draw = self.next_draw();
         let lock = LockId { job, draw };
-        let Ok(lease) = self.leased(job, lock) else {
-            return Err(TakeStop::OutOfMemory);
-        };
-        let Ok(room) = self.rows[job as usize].replies.with_room() else {
-            return Err(TakeStop::OutOfMemory);
-        };
-        if self.history.reserve(1).is_err() {
-            return Err(TakeStop::OutOfMemory);
-        }
+        let lease = self.leased(job, lock)?;
+        let room = self.rows[job as usize].replies.with_room()?;
+        self.history.reserve(1)?;
         let row = &mut self.rows[job as usize];
-        match put_take(row, &mut self.keeper, lock, now) {
-            Err(stop) => return Err(stop),
-            Ok(()) => {}
-        }
+        put_take(row, &mut self.keeper, lock, now)?;
         self.rooms[job as usize] = room;
         self.draws += 1;
         move_job(&mut self.lists, self.rows.as_slice(), job);
@@ -302,18 +286,10 @@ impl<C: Course, K: Keeper> QueueState<C, K> {
         ensures succeeds { K.sure ≡ true → 1 ≤ self.old.spare → IsOwner self.old.history lock → IsOk result }
         ensures count { K.faults self.old.keeper ≤ K.faults self.new.keeper }
     {
-        let at = match self.find(lock) {
-            Err(stop) => return Err(stop),
-            Ok(at) => at,
-        };
-        if self.history.reserve(1).is_err() {
-            return Err(LeaseStop::OutOfMemory);
-        }
+        let at = self.find(lock)?;
+        make_room(&mut self.history)?;
         let row = &mut self.rows[at];
-        match put_beat(row, &mut self.keeper, now) {
-            Err(stop) => return Err(stop),
-            Ok(()) => {}
-        }
+        put_beat(row, &mut self.keeper, now)?;
         move_job(&mut self.lists, self.rows.as_slice(), lock.job);
         self.history.push_reserved(Entry::Beat {
             job: lock.job,
@@ -323,49 +299,46 @@ impl<C: Course, K: Keeper> QueueState<C, K> {
         Ok(())
     }
 
+    /// Tests whether a flush may be committed: the lock is the owner's, what is flushed began at the committed state, and
+    /// there is room for its entry. Answers where the row stands.
+    fn begin_flush(
+        &mut self,
+        lock: LockId,
+        input: &JobInput,
+        replies: &Replies,
+        from: u64,
+    ) -> Result<usize, LeaseStop>
+        ensures found { IfOk result (Finds self.new.rows lock) }
+        ensures owner { OnOk result (IsOwner self.new.history lock) }
+        ensures began { OnOk result (BeganAt self.new.rows lock.job input.now replies.now from) }
+        ensures room { OnOk result (1 ≤ self.new.spare) }
+        ensures grown { IsGrown self.old self.new }
+        ensures refused { IfErr result (Refuses self.old.history lock
+            (BeganAt self.old.rows lock.job input.now replies.now from) ⊥) }
+        ensures full { IfErr result (λ stop. stop ≡ LeaseStop.OutOfMemory → self.old.spare < 1) }
+    {
+        let at = self.find(lock)?;
+        if !self.began_at(lock.job, input, replies, from) {
+            return Err(LeaseStop::NotThisRun);
+        }
+        make_room(&mut self.history)?;
+        Ok(at)
+    }
+
     /// Commits a run of the job's owner, which began at the committed state, and gives the lock up.
     pub fn flush_run(&mut self, lock: LockId, run: Advance<C>) -> Result<(), Refused<Advance<C>>>
-        ensures ok { OnOk result (IsOneStep K.tells K.held self.old self.new lock.job
-            (row_after_run run) (Entry.Ran lock.job lock run.from run.to (next_of run.after))) }
-        ensures owner { OnOk result (IsOwner self.old.history lock) }
-        ensures began { OnOk result (RunBegan self.old.rows lock.job run) }
-        ensures unknown_job { IsErrAnd result (λ r. r.stop ≡ LeaseStop.UnknownJob) ↔ (jobs_of self.old.history ≤ lock.job) }
-        ensures wrong_lock { (live : Option LockId) →
-            IsErrAnd result (λ r. r.stop ≡ LeaseStop.WrongLock live) ↔ IsOwnedBy self.old.history lock live }
-        ensures not_this_run { IsErrAnd result (λ r. r.stop ≡ LeaseStop.NotThisRun)
-            ↔ (IsOwner self.old.history lock × ¬ (RunBegan self.old.rows lock.job run)) }
-        ensures refused { IfErr result (λ r. Refuses self.old.history lock
-            (RunBegan self.old.rows lock.job run) (KeeperRose K.faults self.old self.new) r.stop) }
-        ensures back { IfErr result (λ r. r.back ≡ run) }
-        ensures err { OnErr result (IsUntouched K.tells K.held self.old self.new) }
-        ensures succeeds { K.sure ≡ true → 1 ≤ self.old.spare → IsOwner self.old.history lock
-            → RunBegan self.old.rows lock.job run → IsOk result }
-        ensures count { K.faults self.old.keeper ≤ K.faults self.new.keeper }
+        ensures { Flushes K.faults K.tells K.held K.sure self.old self.new lock (RunBegan self.old.rows lock.job run)
+            (row_after_run run) (Entry.Ran lock.job lock run.from run.to (next_of run.after)) run result }
     {
-        let at = match self.find(lock) {
+        let at = match self.begin_flush(lock, &run.input, &run.replies, run.from) {
             Err(stop) => return Err(Refused { stop, back: run }),
             Ok(at) => at,
         };
-        if !self.began_at(lock.job, &run.input, &run.replies, run.from) {
-            return Err(Refused {
-                stop: LeaseStop::NotThisRun,
-                back: run,
-            });
-        }
-        if self.history.reserve(1).is_err() {
-            return Err(Refused {
-                stop: LeaseStop::OutOfMemory,
-                back: run,
-            });
-        }
         let from = run.from;
         let to = run.to;
         let next = kind_of(&run.after);
         let row = &mut self.rows[at];
-        match put_run(row, &mut self.keeper, run) {
-            Err(refused) => return Err(refused),
-            Ok(()) => {}
-        }
+        put_run(row, &mut self.keeper, run)?;
         move_job(&mut self.lists, self.rows.as_slice(), lock.job);
         self.history.push_reserved(Entry::Ran {
             job: lock.job,
@@ -383,24 +356,11 @@ impl<C: Course, K: Keeper> QueueState<C, K> {
         lock: LockId,
         answered: Answered<C>,
     ) -> Result<(), Refused<Answered<C>>>
-        ensures ok { OnOk result (IsOneStep K.tells K.held self.old self.new lock.job
-            (row_after_reply answered.reply) (Entry.Replied lock.job lock answered.reply)) }
-        ensures owner { OnOk result (IsOwner self.old.history lock) }
-        ensures began { OnOk result (AnswerBegan self.old.rows lock.job answered) }
-        ensures unknown_job { IsErrAnd result (λ r. r.stop ≡ LeaseStop.UnknownJob) ↔ (jobs_of self.old.history ≤ lock.job) }
-        ensures wrong_lock { (live : Option LockId) →
-            IsErrAnd result (λ r. r.stop ≡ LeaseStop.WrongLock live) ↔ IsOwnedBy self.old.history lock live }
-        ensures not_this_run { IsErrAnd result (λ r. r.stop ≡ LeaseStop.NotThisRun)
-            ↔ (IsOwner self.old.history lock × ¬ (AnswerBegan self.old.rows lock.job answered)) }
-        ensures refused { IfErr result (λ r. Refuses self.old.history lock
-            (AnswerBegan self.old.rows lock.job answered) (KeeperRose K.faults self.old self.new) r.stop) }
-        ensures back { IfErr result (λ r. r.back ≡ answered) }
-        ensures err { OnErr result (IsUntouched K.tells K.held self.old self.new) }
-        ensures succeeds { K.sure ≡ true → 1 ≤ self.old.spare → IsOwner self.old.history lock
-            → AnswerBegan self.old.rows lock.job answered → IsOk result }
-        ensures count { K.faults self.old.keeper ≤ K.faults self.new.keeper }
+        ensures { Flushes K.faults K.tells K.held K.sure self.old self.new lock (AnswerBegan self.old.rows lock.job answered)
+            (row_after_reply answered.reply) (Entry.Replied lock.job lock answered.reply) answered result }
     {
-        let at = match self.find(lock) {
+        let from = answered.from;
+        let at = match self.begin_flush(lock, &answered.input, &answered.replies, from) {
             Err(stop) => {
                 return Err(Refused {
                     stop,
@@ -409,32 +369,16 @@ impl<C: Course, K: Keeper> QueueState<C, K> {
             }
             Ok(at) => at,
         };
-        if !self.began_at(lock.job, &answered.input, &answered.replies, answered.from) {
-            return Err(Refused {
-                stop: LeaseStop::NotThisRun,
-                back: answered,
-            });
-        }
-        if self.history.reserve(1).is_err() {
-            return Err(Refused {
-                stop: LeaseStop::OutOfMemory,
-                back: answered,
-            });
-        }
         let row = &mut self.rows[at];
         let room = &mut self.rooms[at];
-        match put_reply(row, room, &mut self.keeper, answered) {
-            Err(refused) => Err(refused),
-            Ok(reply) => {
-                move_job(&mut self.lists, self.rows.as_slice(), lock.job);
-                self.history.push_reserved(Entry::Replied {
-                    job: lock.job,
-                    lock,
-                    reply,
-                });
-                Ok(())
-            }
-        }
+        let reply = put_reply(row, room, &mut self.keeper, answered)?;
+        move_job(&mut self.lists, self.rows.as_slice(), lock.job);
+        self.history.push_reserved(Entry::Replied {
+            job: lock.job,
+            lock,
+            reply,
+        });
+        Ok(())
     }
 
     /// Puts the job back on its queue until the moment `at`, and gives the lock up.
@@ -451,18 +395,10 @@ impl<C: Course, K: Keeper> QueueState<C, K> {
         ensures succeeds { K.sure ≡ true → 1 ≤ self.old.spare → IsOwner self.old.history lock → IsOk result }
         ensures count { K.faults self.old.keeper ≤ K.faults self.new.keeper }
     {
-        let place = match self.find(lock) {
-            Err(stop) => return Err(stop),
-            Ok(place) => place,
-        };
-        if self.history.reserve(1).is_err() {
-            return Err(LeaseStop::OutOfMemory);
-        }
+        let place = self.find(lock)?;
+        make_room(&mut self.history)?;
         let row = &mut self.rows[place];
-        match put_back(row, &mut self.keeper, at) {
-            Err(stop) => return Err(stop),
-            Ok(()) => {}
-        }
+        put_back(row, &mut self.keeper, at)?;
         move_job(&mut self.lists, self.rows.as_slice(), lock.job);
         self.history.push_reserved(Entry::PutBack {
             job: lock.job,
@@ -485,15 +421,10 @@ impl<C: Course, K: Keeper> QueueState<C, K> {
         let Some(job) = self.first_stale(now) else {
             return Ok(None);
         };
-        if self.history.reserve(1).is_err() {
-            return Err(TakeStop::OutOfMemory);
-        }
+        self.history.reserve(1)?;
         let row = &mut self.rows[job as usize];
         let beat = row.beat;
-        match put_sweep(row, &mut self.keeper, now) {
-            Err(stop) => return Err(stop),
-            Ok(()) => {}
-        }
+        put_sweep(row, &mut self.keeper, now)?;
         move_job(&mut self.lists, self.rows.as_slice(), job);
         self.history.push_reserved(Entry::Swept { job, now, beat });
         Ok(Some(job))
@@ -513,6 +444,21 @@ impl<C: Course, K: Keeper> QueueState<C, K> {
     }
 }
 
+/// Makes room for one more entry, for a call under a lock.
+fn make_room(history: &mut Vec<Entry>) -> Result<(), LeaseStop>
+    ensures items { history.new.items ≡ history.old.items }
+    ensures len { vec_len history.new ≡ vec_len history.old }
+    ensures capacity { vec_capacity history.old ≤ vec_capacity history.new }
+    ensures ok { OnOk result (vec_len history.new < vec_capacity history.new) }
+    ensures memory { IfErr result (λ stop. stop ≡ LeaseStop.OutOfMemory) }
+    ensures full { OnErr result (vec_capacity history.old ≤ vec_len history.old) }
+{
+    match history.reserve(1) {
+        Ok(()) => Ok(()),
+        Err(_) => Err(LeaseStop::OutOfMemory),
+    }
+}
+
 fn kind_of(after: &After) -> Next
     ensures { result ≡ next_of after.now }
 {
@@ -521,13 +467,6 @@ fn kind_of(after: &After) -> Next
         After::Fetch(_) => Next::Fetch,
         After::Finished => Next::Finished,
     }
-}
-
-/// Whether a job with this last beat may be swept.
-fn is_silent(beat: u64, now: u64) -> bool
-    ensures { IsTrue result ↔ (beat + 30000 ≤ now) }
-{
-    beat <= now && now - beat >= STALE_AFTER
 }
 
 fn new_row(alloc: Global, job: u32, input: JobInput, priority: i16, at: u64) -> Row
@@ -556,7 +495,7 @@ fn new_row(alloc: Global, job: u32, input: JobInput, priority: i16, at: u64) -> 
 }
 
 fn unfinished_in(rows: &[Row]) -> u32
-    requires { length rows.now ≤ 16384 }
+    requires { length rows.now ≤ MOST_JOBS }
     ensures { result ≡ count_by is_unfinished rows.now }
 {
     let mut count = 0;

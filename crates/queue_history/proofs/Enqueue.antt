@@ -9,6 +9,7 @@ use Rattle.cyclotron_jobs.specs.declared.entry.Entry.{Entry}
 use Rattle.cyclotron_jobs.specs.declared.entry.Entry.TheVariants.{Queued, Taken, Beat, Ran, Replied, Swept, PutBack}
 use Rattle.cyclotron_jobs.specs.Course.{shows_nothing}
 use Rattle.cyclotron_jobs.specs.declared.row.After.TheVariants as after
+use Rattle.queue_history.specs.declared.TheConstants.{MOST_JOBS}
 use Rattle.queue_history.specs.Rules.{InputRule, CourseRule, ReplyRule}
 use Rattle.queue_history.specs.Facts.{JobFacts, facts_of, facts_from, entries_of, job_of}
 use Rattle.queue_history.specs.Legal.{HasInput, MayFollow, IsLegal}
@@ -46,7 +47,7 @@ unfolding facts_of
 facts_of-none job h below = ap facts_from (entries_of-none job h below)
 
 pub IsKept-enqueue : {takes : InputRule} {on_course : CourseRule} {reply_ok : ReplyRule} {rows : List Row} {history : List Entry} {row : Row} {job : ℕ} {input : JobInput} {priority : ℤ} {at : ℕ}
-    → IsKept takes on_course reply_ok rows history → IsNewRow row job input priority at → job ≡ length rows → job < 16384 → takes input
+    → IsKept takes on_course reply_ok rows history → IsNewRow row job input priority at → job ≡ length rows → job < MOST_JOBS → takes input
     → on_course input [] 0 [] shows_nothing after.Hog
     → IsKept takes on_course reply_ok (rows ++ row ∷ []) (history ++ Queued job priority at ∷ [])
 IsKept-enqueue {takes} {on_course} {reply_ok} {rows} {history} {row} {job} {input} {priority} {at} kept new number few taken begins =

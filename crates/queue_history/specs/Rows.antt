@@ -10,6 +10,7 @@ use Rattle.cyclotron_jobs.specs.declared.row.After.{After}
 use Rattle.cyclotron_jobs.specs.declared.row.After.TheVariants.{Finished}
 use Rattle.cyclotron_jobs.specs.declared.entry.Entry.{Entry}
 use Rattle.cyclotron_jobs.specs.Course.{after_of, shows_nothing, AsksOn}
+use Rattle.queue_history.specs.declared.TheConstants.{MOST_JOBS}
 use Rattle.queue_history.specs.Rules.{InputRule, CourseRule, ReplyRule}
 use Rattle.queue_history.specs.Facts.{JobFacts, facts_of, state_of, jobs_of, job_of}
 use Rattle.queue_history.specs.Legal.{IsLegal}
@@ -47,7 +48,7 @@ inputs_of rows = map (λ row. row.input) rows
 pub record IsKept (takes : InputRule) (on_course : CourseRule) (reply_ok : ReplyRule) (rows : List Row) (history : List Entry) : Type 0 where
   pub legal : IsLegal takes reply_ok (inputs_of rows) history
   pub jobs : length rows ≡ jobs_of history
-  pub few : length rows ≤ 16384
+  pub few : length rows ≤ MOST_JOBS
   pub known : (k : ℕ) (e : Entry) → slice_get history k ≡ Some e → job_of e < length rows
   pub numbered : (k : ℕ) (row : Row) → slice_get rows k ≡ Some row → row.job ≡ k
   pub each : (k : ℕ) (row : Row) → slice_get rows k ≡ Some row → RowIs (facts_of k history) row

@@ -1,6 +1,6 @@
-//! The orders in which jobs are taken and swept.
+//! The orders in which jobs are taken and swept, and when a job may be swept.
 
-ghost use Rattle.std.specs.Prelude.{◌≡◌};
+ghost use Rattle.std.specs.Prelude.{◌≡◌, ◌≤◌, ◌+◌, ◌↔◌, IsTrue};
 ghost use Rattle.queue_history.specs.Due.{turn_cmp, silence_cmp};
 
 use std::cmp::Ordering;
@@ -34,4 +34,14 @@ pub fn compare_silences(one: Silence, other: Silence) -> Ordering
     ensures { result ≡ silence_cmp one other }
 {
     one.cmp(&other)
+}
+
+/// How many milliseconds after its last beat a running job may be swept.
+const STALE_AFTER: u64 = 30_000;
+
+/// Whether a running job with this last beat may be swept at the moment.
+pub fn is_silent(beat: u64, now: u64) -> bool
+    ensures { IsTrue result ↔ (beat + 30000 ≤ now) }
+{
+    beat <= now && now - beat >= STALE_AFTER
 }

@@ -9,27 +9,27 @@ use Rattle.cyclotron_core.proofs.queue.QueueState.beat.Goals as goal
 
 pub move_job-requires : goal.move_job-requires
 move_job-requires g c =
-    let live = IsLiveRow-from c.self.view_is c.in-Ok.ensures.found c.in-Ok.ensures.owner c.index_mut-row.result.now c.index_mut-row.ensures.value in
+    let live = IsLiveRow-from c.self.view_is c.in_ok-at.ensures.found c.in_ok-at.ensures.owner c.index_mut-row.result.now c.index_mut-row.ensures.value in
     IsListingBefore-live _ c.self.invariant.sound.kept c.self.invariant.listed live c.as_slice.ensures.value
 
 pub invariant_of-self-2 : goal.invariant_of-self-2
 invariant_of-self-2 g c =
-    let live = IsLiveRow-from c.self.view_is c.in-Ok.ensures.found c.in-Ok.ensures.owner c.index_mut-row.result.now c.index_mut-row.ensures.value in
-    rw (c.push_reserved.ensures.items, c.reserve.ensures.items, c.in-Ok-put_beat.ensures.ok)
+    let live = IsLiveRow-from c.self.view_is c.in_ok-at.ensures.found c.in_ok-at.ensures.owner c.index_mut-row.result.now c.index_mut-row.ensures.value in
+    rw (c.push_reserved.ensures.items, c.in_ok-make_room.ensures.items, c.in_ok-put_beat.ensures.ok)
     (IsQueue-step c.self.invariant live.read live.owner
-    (IsStep-beat c.self.invariant.sound.kept c.in-Ok.at live.read c.args.lock.job (sym live.place) c.args.lock c.args.now)
-    (sym (add-zero _)) (c.in-Ok-put_beat.ensures.put.ok refl) (λ runs. (runs, refl))
-    (subst (λ (rows : List Row). IsListing rows c.move_job.new.lists) (c.as_slice.ensures.value ∙ ap (λ (r : Row). set c.self.inside.rows.items c.in-Ok.at r) c.in-Ok-put_beat.ensures.ok) c.move_job.ensures))
+    (IsStep-beat c.self.invariant.sound.kept c.in_ok-at.at live.read c.args.lock.job (sym live.place) c.args.lock c.args.now)
+    (sym (add-zero _)) (c.in_ok-put_beat.ensures.put.ok refl) (λ runs. (runs, refl))
+    (subst (λ (rows : List Row). IsListing rows c.move_job.new.lists) (c.as_slice.ensures.value ∙ ap (λ (r : Row). set c.self.inside.rows.items c.in_ok-at.at r) c.in_ok-put_beat.ensures.ok) c.move_job.ensures))
 
 pub returns-clause-ok : goal.returns-clause-ok
 returns-clause-ok g c =
     let old = c.index_mut-row.result.now in
-    let live = IsLiveRow-from c.self.view_is c.in-Ok.ensures.found c.in-Ok.ensures.owner old c.index_mut-row.ensures.value in
+    let live = IsLiveRow-from c.self.view_is c.in_ok-at.ensures.found c.in_ok-at.ensures.owner old c.index_mut-row.ensures.value in
     rw (← c.self.view_is) record {
       before = old;
       there = live.there;
-      rows = rw (c.in-Ok-put_beat.ensures.ok, ← live.place) refl;
-      history = c.push_reserved.ensures.items ∙ ap (λ h. h ++ Beat c.args.lock.job c.args.lock c.args.now ∷ []) c.reserve.ensures.items;
-      told = c.in-Ok-put_beat.ensures.put.ok refl;
-      spare = omega (arith, c.reserve.ensures.len, c.reserve.ensures.capacity, c.push_reserved.ensures.len, c.push_reserved.ensures.capacity);
+      rows = rw (c.in_ok-put_beat.ensures.ok, ← live.place) refl;
+      history = c.push_reserved.ensures.items ∙ ap (λ h. h ++ Beat c.args.lock.job c.args.lock c.args.now ∷ []) c.in_ok-make_room.ensures.items;
+      told = c.in_ok-put_beat.ensures.put.ok refl;
+      spare = omega (arith, c.in_ok-make_room.ensures.len, c.in_ok-make_room.ensures.capacity, c.push_reserved.ensures.len, c.push_reserved.ensures.capacity);
     }

@@ -23,11 +23,11 @@ invariant_of-self-2 g c =
     let old = c.index_mut-row.result.now in
     let kept = c.self.invariant.sound.kept in
     let read = HasState-read (HasState-inside c.self.view_is c.in-Some.ensures.row) old c.index_mut-row.ensures.value in
-    rw (c.push_reserved.ensures.items, c.reserve.ensures.items, c.in-Ok.ensures.ok)
+    rw (c.push_reserved.ensures.items, c.in_ok-reserve.ensures.items, c.in_ok-put_sweep.ensures.ok)
     (IsQueue-step c.self.invariant read.0 (IsFirstStale-inside c.self.view_is c.in-Some.ensures.first, (kept.each at old read.0).beat)
     (IsStep-sweep kept at read.0 at refl read.1 c.args.now)
-    (sym (add-zero _)) (c.in-Ok.ensures.put.ok refl) (λ runs. absurd (swept_state-rests _ runs))
-    (subst (λ (rows : List Row). IsListing rows c.move_job.new.lists) (c.as_slice.ensures.value ∙ ap (λ (r : Row). set c.self.inside.rows.items at r) c.in-Ok.ensures.ok) c.move_job.ensures))
+    (sym (add-zero _)) (c.in_ok-put_sweep.ensures.put.ok refl) (λ runs. absurd (swept_state-rests _ runs))
+    (subst (λ (rows : List Row). IsListing rows c.move_job.new.lists) (c.as_slice.ensures.value ∙ ap (λ (r : Row). set c.self.inside.rows.items at r) c.in_ok-put_sweep.ensures.ok) c.move_job.ensures))
 
 pub returns-clause-some : goal.returns-clause-some
 returns-clause-some g c =
@@ -40,10 +40,10 @@ returns-clause-some g c =
       step = record {
         before = old;
         there = read.0;
-        rows = rw c.in-Ok.ensures.ok refl;
-        history = rw (c.push_reserved.ensures.items, c.reserve.ensures.items, beat) refl;
-        told = c.in-Ok.ensures.put.ok refl;
-        spare = omega (arith, c.reserve.ensures.len, c.reserve.ensures.capacity, c.push_reserved.ensures.len, c.push_reserved.ensures.capacity);
+        rows = rw c.in_ok-put_sweep.ensures.ok refl;
+        history = rw (c.push_reserved.ensures.items, c.in_ok-reserve.ensures.items, beat) refl;
+        told = c.in_ok-put_sweep.ensures.put.ok refl;
+        spare = omega (arith, c.in_ok-reserve.ensures.len, c.in_ok-reserve.ensures.capacity, c.push_reserved.ensures.len, c.push_reserved.ensures.capacity);
       };
       ran = read.1;
     }
