@@ -1,2 +1,1 @@
-pub mod Fetchers
 pub mod Stops

@@ -1,6 +1,6 @@
 -- Why requests are not answered.
-use Rattle.fetch_gate.specs.declared.fetcher.FetchStop.{FetchStop}
-use Rattle.fetch_gate.specs.declared.fetcher.FetchStop.TheVariants as fetch
+use Rattle.fetchers.specs.declared.fetcher.FetchStop.{FetchStop}
+use Rattle.fetchers.specs.declared.fetcher.FetchStop.TheVariants as fetch
 use Rattle.fetch_gate.specs.declared.gate.GateStop.{GateStop}
 use Rattle.fetch_gate.specs.declared.gate.GateStop.TheVariants as gate
 

@@ -1,15 +1,14 @@
 //! The answer to a leased job's request.
 
-ghost use Rattle.std.specs.Prelude.{ℕ, ◌≡◌, ◌≤◌, length, IfOk};
+ghost use Rattle.std.specs.Prelude.{◌≡◌, ◌≤◌, length, IfOk};
 ghost use Rattle.hog_outside.specs.Faults.{Rose};
-ghost use Rattle.cyclotron_jobs.specs.declared.input.Reply.{Reply};
 ghost use Rattle.cyclotron_jobs.specs.Replies.{AllowsReply};
-ghost use Rattle.fetch_gate.specs.Fetchers.{IsOwn, TellsSame};
+ghost use Rattle.fetchers.specs.Fetchers.{IsOwn, TellsSame};
 
-use crate::fetcher::{FetchStop, Fetcher};
-use cyclotron_jobs::course::Course;
 use cyclotron_jobs::lease::{Answered, Lease};
 use cyclotron_jobs::row::QueueName;
+use fetchers::{FetchStop, Fetcher};
+use hog_jobs::HogCourse;
 use std::alloc::{AllocError, Global};
 use std::marker::PhantomData;
 
@@ -46,16 +45,15 @@ impl From<FetchStop> for GateStop {
     }
 }
 
-/// Answers the request of a job that is leased from the queue of fetches, with a reply that the fetcher gets.
-/// The course has to let each reply come that the job's input allows. A job that has 2^32 replies or more is
-/// past memory.
-pub fn answer<C: Course, F: Fetcher>(
+/// Answers the request of a job that is leased from the queue of fetches, with a reply that the fetcher gets. It asks for
+/// the fetch whose number is the count of the replies before it, and says how often the job was given back. A job that has
+/// 2^32 replies or more is past memory.
+pub fn answer<F: Fetcher>(
     alloc: Global,
-    lease: &Lease<C>,
+    lease: &Lease<HogCourse>,
     fetcher: &mut F,
-) -> Result<Answered<C>, GateStop>
-    requires fetch { lease.now.queue ≡ QueueName.Fetch }
-    requires course { (n : ℕ) (reply : Reply) → AllowsReply lease.now.input n reply → C.reply_ok lease.now.input n reply }
+) -> Result<Answered<HogCourse>, GateStop>
+    requires { lease.now.queue ≡ QueueName.Fetch }
     ensures input { IfOk result (λ a. a.input ≡ lease.now.input) }
     ensures replies { IfOk result (λ a. a.replies ≡ lease.now.replies) }
     ensures from { IfOk result (λ a. a.from ≡ lease.now.ops) }
@@ -64,6 +62,12 @@ pub fn answer<C: Course, F: Fetcher>(
     ensures failed { result ≡ Err GateStop.Failed → Rose (F.faults fetcher.old) (F.faults fetcher.new) }
     ensures count { F.faults fetcher.old ≤ F.faults fetcher.new }
     ensures same { TellsSame (F.told fetcher.old) (F.told fetcher.new) }
+
+    // The fetcher was asked for just this fetch, at the lease's tries.
+    ensures answered { IfOk result (λ a. F.answers fetcher.old lease.now.input (length lease.now.replies)
+        lease.now.tries (Ok a.reply) fetcher.new) }
+    ensures missed { result ≡ Err GateStop.Failed → F.answers fetcher.old lease.now.input (length lease.now.replies)
+        lease.now.tries (Err FetchStop.Failed) fetcher.new }
 {
     let Some(request) = &lease.asks else {
         unreachable!()

@@ -18,7 +18,7 @@ pub struct FailingFetcher {
 }
 
 impl Model for FailingFetcher {
-    ghost use Rattle.fetch_gate.specs.Fetchers.{FailingOf};
+    ghost use Rattle.fetchers.specs.Fetchers.{FailingOf};
 
     ghost Value = { FailingOf };
 
@@ -48,16 +48,14 @@ impl FailingFetcher {
 }
 
 impl Fetcher for FailingFetcher {
-    ghost use Rattle.std.specs.Prelude.{ℕ, ◌≡◌, ◌≢◌, ◌≤◌, ◌↔◌, Option, Some, IfOk, Contains};
-    ghost use Rattle.hog_outside.specs.Faults.{Rose, next_call, next_fault};
-    ghost use Rattle.cyclotron_jobs.specs.declared.input.JobInput.{JobInput};
-    ghost use Rattle.cyclotron_jobs.specs.declared.input.Reply.{Reply};
-    ghost use Rattle.cyclotron_jobs.specs.Replies.{AllowsReply};
-    ghost use Rattle.fetch_gate.specs.Fetchers.{reply_of};
+    ghost use Rattle.std.specs.Prelude.{Some};
+    ghost use Rattle.fetchers.specs.Fetchers.{FailingAnswers, reply_of};
 
     ghost faults = { λ f. f.faults };
 
     ghost told = { λ f input n. Some (reply_of input.answers n f.free) };
+
+    ghost answers = { λ f _ _ _ answer after. FailingAnswers f answer after };
 
     fn fetch(
         &mut self,
@@ -66,29 +64,12 @@ impl Fetcher for FailingFetcher {
         n: u32,
         _tries: u8,
         _request: &Request,
-    ) -> Result<Reply, FetchStop>
-        ensures allowed { IfOk result (λ reply. AllowsReply input.now n reply) }
-        ensures own { IfOk result (λ reply. reply ≡ reply_of input.now.answers n self.old.free) }
-
-        ensures failed { result ≡ Err FetchStop.Failed → Rose self.old.faults self.new.faults }
-        ensures count { self.old.faults ≤ self.new.faults }
-        ensures same { self.new.free ≡ self.old.free }
-
-        // It fails at the calls of its list, and its count rises then alone.
-        ensures chosen { (result ≡ Err FetchStop.Failed) ↔ Contains self.old.fails (next_call self.old.calls) }
-        ensures rises { result ≡ Err FetchStop.Failed → self.new.faults ≡ next_fault self.old.faults }
-        ensures still { result ≢ Err FetchStop.Failed → self.new.faults ≡ self.old.faults }
-        ensures calls { self.new.calls ≡ next_call self.old.calls }
-        ensures fails { self.new.fails ≡ self.old.fails }
-    {
+    ) -> Result<Reply, FetchStop> {
         self.calls = self.calls.saturating_add(1);
         if self.fails.items().contains(&self.calls) {
             self.faults = self.faults.saturating_add(1);
             return Err(FetchStop::Failed);
         }
-        match copy_reply_of(alloc, input, n, &self.free) {
-            Ok(reply) => Ok(reply),
-            Err(_) => Err(FetchStop::OutOfMemory),
-        }
+        Ok(copy_reply_of(alloc, input, n, &self.free)?)
     }
 }

@@ -2,7 +2,7 @@
 
 ghost use Rattle.std.specs.Prelude.{◌≡◌, IfOk};
 ghost use Rattle.cyclotron_jobs.specs.Replies.{listed_reply};
-ghost use Rattle.fetch_gate.specs.Fetchers.{reply_of};
+ghost use Rattle.fetchers.specs.Fetchers.{reply_of};
 
 use crate::fetcher::{FetchStop, Fetcher};
 use cyclotron_jobs::input::{Answers, JobInput, Reply};
@@ -21,7 +21,7 @@ pub struct ListFetcher {
 }
 
 impl Model for ListFetcher {
-    ghost use Rattle.fetch_gate.specs.Fetchers.{ListOf};
+    ghost use Rattle.fetchers.specs.Fetchers.{ListOf};
 
     ghost Value = { ListOf };
 
@@ -46,16 +46,14 @@ impl ListFetcher {
 }
 
 impl Fetcher for ListFetcher {
-    ghost use Rattle.std.specs.Prelude.{ℕ, ◌≡◌, ◌≤◌, ◌<◌, ◌↔◌, Option, Some, IfOk};
-    ghost use Rattle.hog_outside.specs.Faults.{Rose, next_fault};
-    ghost use Rattle.cyclotron_jobs.specs.declared.input.JobInput.{JobInput};
-    ghost use Rattle.cyclotron_jobs.specs.declared.input.Reply.{Reply};
-    ghost use Rattle.cyclotron_jobs.specs.Replies.{AllowsReply};
-    ghost use Rattle.fetch_gate.specs.Fetchers.{reply_of};
+    ghost use Rattle.std.specs.Prelude.{Some};
+    ghost use Rattle.fetchers.specs.Fetchers.{ListAnswers, reply_of};
 
     ghost faults = { λ f. f.faults };
 
     ghost told = { λ f input n. Some (reply_of input.answers n f.free) };
+
+    ghost answers = { λ f _ _ tries answer after. ListAnswers f tries answer after };
 
     fn fetch(
         &mut self,
@@ -64,27 +62,12 @@ impl Fetcher for ListFetcher {
         n: u32,
         tries: u8,
         _request: &Request,
-    ) -> Result<Reply, FetchStop>
-        ensures allowed { IfOk result (λ reply. AllowsReply input.now n reply) }
-        ensures own { IfOk result (λ reply. reply ≡ reply_of input.now.answers n self.old.free) }
-
-        ensures failed { result ≡ Err FetchStop.Failed → Rose self.old.faults self.new.faults }
-        ensures count { self.old.faults ≤ self.new.faults }
-        ensures same { self.new.free ≡ self.old.free }
-
-        // It fails in the first tries, and its count rises then alone.
-        ensures missed { (result ≡ Err FetchStop.Failed) ↔ (tries < self.old.misses) }
-        ensures rises { tries < self.old.misses → self.new ≡ record self.old { faults = next_fault self.old.faults } }
-        ensures still { self.old.misses ≤ tries → self.new ≡ self.old }
-    {
+    ) -> Result<Reply, FetchStop> {
         if tries < self.misses {
             self.faults = self.faults.saturating_add(1);
             return Err(FetchStop::Failed);
         }
-        match copy_reply_of(alloc, input, n, &self.free) {
-            Ok(reply) => Ok(reply),
-            Err(_) => Err(FetchStop::OutOfMemory),
-        }
+        Ok(copy_reply_of(alloc, input, n, &self.free)?)
     }
 }
 
