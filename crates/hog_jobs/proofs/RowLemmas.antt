@@ -186,6 +186,8 @@ module _ (law : CourseShowsMeaning) where
 pub queues_agree : RowsAgree → QueuesAgree
 queues_agree agree rows history kept = record {
   legal = kept.legal;
+  jobs = kept.jobs;
+  numbered = kept.numbered;
   each = kept.each;
   courses = kept.courses;
   agree = λ k row there. agree k history row (kept.each k row there) (kept.courses k row there);

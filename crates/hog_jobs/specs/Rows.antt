@@ -1,5 +1,5 @@
 -- What the row of a job says of what its source means.
-use Rattle.std.specs.Prelude.{◌≡◌, ◌≢◌, ℕ, List, [], ◌∷◌, ◌++◌, None, Some, slice_get}
+use Rattle.std.specs.Prelude.{◌≡◌, ◌≢◌, ℕ, List, [], ◌∷◌, ◌++◌, length, None, Some, slice_get}
 use Rattle.hog_value.specs.declared.trace.Request.{Request}
 use Rattle.hog_value.specs.declared.trace.TraceItem.{TraceItem}
 use Rattle.hog_value.specs.declared.trace.TraceItem.TheVariants.{Asked}
@@ -11,7 +11,7 @@ use Rattle.cyclotron_jobs.specs.declared.row.JobState.TheVariants.{Completed}
 use Rattle.cyclotron_jobs.specs.declared.row.QueueName.TheVariants as queue
 use Rattle.cyclotron_jobs.specs.declared.row.Row.{Row}
 use Rattle.cyclotron_jobs.specs.Replies.{AllowsReply}
-use Rattle.queue_history.specs.Facts.{facts_of}
+use Rattle.queue_history.specs.Facts.{facts_of, jobs_of}
 use Rattle.queue_history.specs.Legal.{IsLegal}
 use Rattle.queue_history.specs.Rows.{RowIs, IsOnCourse, IsKept, inputs_of}
 use Rattle.hog_jobs.specs.Course.{replies_of}
@@ -41,10 +41,12 @@ pub record AgreesWithMeaning (row : Row) : Type 0 where
 abbrev pub RowsAgree : Type 0
 RowsAgree = (job : ℕ) (history : List Entry) (row : Row) → RowIs (facts_of job history) row → IsOnCourse IsCourse row → AgreesWithMeaning row
 
--- What always holds of a queue of such jobs: the history is legal, each row is the row of its job, each job is on course, and
--- each row agrees with what its source means.
+-- What always holds of a queue of such jobs: the history is legal, there is a row for each job that was queued, row k is that of
+-- job k, and that job is on course, and each row agrees with what its source means.
 pub record KeepsTheMeaning (rows : List Row) (history : List Entry) : Type 0 where
   pub legal : IsLegal IsInput AllowsReply (inputs_of rows) history
+  pub jobs : length rows ≡ jobs_of history
+  pub numbered : (k : ℕ) (row : Row) → slice_get rows k ≡ Some row → row.job ≡ k
   pub each : (k : ℕ) (row : Row) → slice_get rows k ≡ Some row → RowIs (facts_of k history) row
   pub courses : (k : ℕ) (row : Row) → slice_get rows k ≡ Some row → IsOnCourse IsCourse row
   pub agree : (k : ℕ) (row : Row) → slice_get rows k ≡ Some row → AgreesWithMeaning row

@@ -5,7 +5,6 @@ ghost use Rattle.serde_json.specs.Data.{depth};
 ghost use Rattle.serde_json.specs.Find.{as_object};
 ghost use Rattle.serde_json.specs.View.{view};
 ghost use Rattle.hog_json.specs.Nulled.{count_nulled, nulled_text};
-ghost use Rattle.hog_program.specs.Program.{HasCode};
 ghost use Rattle.hog_jobs.specs.Inputs.{IsInput, most_globals};
 
 use cyclotron_jobs::{Answers, Course, JobInput};
@@ -67,8 +66,7 @@ impl From<AllocError> for InputStop {
 
 impl HogCourse {
     /// The input of a job of a program: its source, the kept text of the globals, and where its replies come from. Numbers of
-    /// the globals that aren't whole numbers of 64 bits become null. The globals are nested at most 127 deep. Of a program
-    /// that was built the course takes it.
+    /// the globals that aren't whole numbers of 64 bits become null. The globals are nested at most 127 deep.
     pub fn input(
         alloc: Global,
         p: &Program,
@@ -80,7 +78,7 @@ impl HogCourse {
         ensures globals { IfOk result (λ r. r.input.globals ≡ nulled_text (view globals.now)) }
         ensures answers { IfOk result (λ r. r.input.answers ≡ answers) }
         ensures nulled { IfOk result (λ r. r.nulled ≡ count_nulled (view globals.now)) }
-        ensures taken { HasCode p.now.source p.now.code → IfOk result (λ r. IsInput r.input) }
+        ensures taken { IfOk result (λ r. IsInput r.input) }
         ensures not_an_object { (result ≡ Err InputStop.NotAnObject)
             ↔ (as_object (view globals.now) ≡ None) }
         ensures too_large { result ≡ Err InputStop.TooLarge

@@ -204,7 +204,7 @@ fn advanced(
     kept_globals();
     runs_are_machines();
     let _ops = program.code().ops();
-    let saved = Bytes::new(save(alloc, &machine)?.into_bytes());
+    let saved = Bytes::new(save(alloc, &machine)?);
     let after = next_after(&machine, &lease.replies)?;
     let to = machine.ops();
     Ok(Advance {
