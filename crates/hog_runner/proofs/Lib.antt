@@ -1,2 +1,3 @@
 pub mod TakesLemmas
+pub mod ServesLemmas
 pub mod TopLemmas

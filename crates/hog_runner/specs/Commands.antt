@@ -24,8 +24,8 @@ use Rattle.line_writer.specs.Lines.{run_output}
 use Rattle.hog_runner.specs.Causes.{cause_of, script_cause}
 
 -- the command of a name
-abbrev pub named : List ℕ → Option Command
-named word =
+abbrev pub command_named : List ℕ → Option Command
+command_named word =
     if bytes_eq word (codes "eval") then Some (Source Eval) else (
     if bytes_eq word (codes "fmt") then Some (Source Fmt) else (
     if bytes_eq word (codes "compile") then Some (Source Compile) else (
@@ -34,7 +34,7 @@ named word =
 -- the command that a list of words asks for
 abbrev pub command_of : List (List ℕ) → Option Command
 command_of [] = None
-command_of (word ∷ []) = named word
+command_of (word ∷ []) = command_named word
 command_of (word ∷ more ∷ words) = None
 
 -- the most bytes of input that are taken
@@ -45,10 +45,10 @@ most_bytes = 16777216
 
 -- The program that a command reads: for running and compiling it, the whole of it, with what it mentions of the prelude, where its
 -- names are without fault; for printing, its tree.
-abbrev pub Reads : SourceCommand → List ℕ → Stms → Type 0
-Reads Eval text tree = IsBuilt text tree
-Reads Fmt text tree = IsProgram text tree
-Reads Compile text tree = IsBuilt text tree
+abbrev pub ReadsProgram : SourceCommand → List ℕ → Stms → Type 0
+ReadsProgram Eval text tree = IsBuilt text tree
+ReadsProgram Fmt text tree = IsProgram text tree
+ReadsProgram Compile text tree = IsBuilt text tree
 
 -- why there is no such program
 abbrev pub Rejects : SourceCommand → List ℕ → BuildStop → Type 0
@@ -62,10 +62,10 @@ shows_output shown = run_output shown.trace shown.end
 
 -- What a command writes for a program with this tree: the lines of its meaning on no globals and no replies, the printed tree,
 -- or the line of its bytecode.
-abbrev pub Gives : SourceCommand → Stms → List ℕ → Type 0
-Gives Eval tree out = out ≡ shows_output (meaning tree (codes "{}") [])
-Gives Fmt tree out = out ≡ printed tree
-Gives Compile tree out = out ≡ ended (code_text (code_of tree))
+abbrev pub IsOutput : SourceCommand → Stms → List ℕ → Type 0
+IsOutput Eval tree out = out ≡ shows_output (meaning tree (codes "{}") [])
+IsOutput Fmt tree out = out ≡ printed tree
+IsOutput Compile tree out = out ≡ ended (code_text (code_of tree))
 
 -- what a program is to be for the command: for running it, one whose names are right
 abbrev pub IsReady : SourceCommand → Stms → Type 0
@@ -76,8 +76,8 @@ IsReady Compile tree = Unit {0}
 -- what a command writes for a source
 pub record SourceOutputs (command : SourceCommand) (text out : List ℕ) : Type 0 where
   pub tree : Stms
-  pub program : Reads command text tree
-  pub gives : Gives command tree out
+  pub program : ReadsProgram command text tree
+  pub output : IsOutput command tree out
 
 -- Why a command refuses a source, as the line of the refusal says it.
 pub data SourceRefuses (command : SourceCommand) (text cause : List ℕ) : Type 0 where
@@ -93,21 +93,25 @@ pub record ScriptOf (text : List ℕ) (steps : List Step) : Type 0 where
   pub small : length text ≤ most_bytes
   pub script : IsScript text steps
 
--- A play of the script on an empty queue has these lines. Its steps are the fold of specs/Play.antt in script_steps.
-pub record ScriptOutputs (text out : List ℕ) : Type 0 where
-  pub steps : List Step
-  pub script : ScriptOf text steps
+-- A play of the steps on an empty queue has these lines. Its steps are the fold of specs/Play.antt in script_steps.
+pub record PlaysWhole (steps : List Step) (out : List ℕ) : Type 0 where
   pub before : ℕ
   pub after : ℕ
   pub rows : List Row
   pub history : List Entry
   pub plays : Plays before after steps rows history out
 
--- the lines of the first steps of a play, or all its lines
-pub record ScriptPart (text out : List ℕ) : Type 0 where
+-- what is written for a script
+pub record ScriptOutputs (text out : List ℕ) : Type 0 where
   pub steps : List Step
   pub script : ScriptOf text steps
-  pub plays : PlaysPart steps out
+  pub lines : PlaysWhole steps out
+
+-- the lines of the first steps of its play, or all its lines
+pub record ScriptPart {K : Type 0} (faults : K → ℕ) (keeper : K) (text out : List ℕ) : Type 0 where
+  pub steps : List Step
+  pub script : ScriptOf text steps
+  pub lines : PlaysPart faults keeper steps out
 
 -- why a script is refused
 pub data ScriptRefuses (text cause : List ℕ) : Type 0 where
@@ -120,14 +124,14 @@ pub data ScriptRefuses (text cause : List ℕ) : Type 0 where
 
 -- what a command writes for its input
 abbrev pub Outputs : Command → List ℕ → List ℕ → Type 0
-Outputs (Source command) text out = SourceOutputs command text out
-Outputs Replay text out = ScriptOutputs text out
+Outputs (Source command) = SourceOutputs command
+Outputs Replay = ScriptOutputs
 
 -- What is there of it where a write fails or memory is wanted, before the prefix of it that was written is taken: of a
 -- source the whole output, of a script the lines of the steps that were played.
-abbrev pub OutputsPart : Command → List ℕ → List ℕ → Type 0
-OutputsPart (Source command) text out = SourceOutputs command text out
-OutputsPart Replay text out = ScriptPart text out
+abbrev pub OutputsPart : {K : Type 0} → (K → ℕ) → K → Command → List ℕ → List ℕ → Type 0
+OutputsPart faults keeper (Source command) = SourceOutputs command
+OutputsPart faults keeper Replay = ScriptPart faults keeper
 
 -- which inputs a command takes
 abbrev pub Accepts : Command → List ℕ → Type 0
@@ -135,6 +139,6 @@ Accepts (Source command) text = (out : List ℕ) × SourceOutputs command text o
 Accepts Replay text = (steps : List Step) × ScriptOf text steps
 
 -- why a command refuses its input, as the line of the refusal says it
-abbrev pub Refuses : Command → List ℕ → List ℕ → Type 0
-Refuses (Source command) text cause = SourceRefuses command text cause
-Refuses Replay text cause = ScriptRefuses text cause
+abbrev pub RefusesInput : Command → List ℕ → List ℕ → Type 0
+RefusesInput (Source command) = SourceRefuses command
+RefusesInput Replay = ScriptRefuses

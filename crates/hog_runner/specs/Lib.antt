@@ -3,3 +3,4 @@ pub mod Causes
 pub mod Commands
 pub mod Writes
 pub mod Stops
+pub mod Serves

@@ -1,4 +1,7 @@
--- Why there is no program, by why there is no text and why a text is no program.
+-- Why there is no program or no script, by why there is no text and why a text is none, and the status of an output.
+use Rattle.std.specs.Prelude.{ℕ, Result, Ok, Err}
+use Rattle.line_writer.specs.declared.output.OutputStop.{OutputStop}
+use Rattle.line_writer.specs.declared.output.OutputStop.TheVariants as output
 use Rattle.hog_program.specs.declared.stop.BuildStop.{BuildStop}
 use Rattle.hog_program.specs.declared.stop.BuildStop.TheVariants as build
 use Rattle.hog_runner.specs.declared.program.ProgramStop.{ProgramStop}
@@ -29,3 +32,9 @@ script_of_input input.OutOfMemory = none.OutOfMemory
 abbrev pub of_script : ScriptStop → NoScript
 of_script script.OutOfMemory = none.OutOfMemory
 of_script s = none.Refused s
+
+-- the status of an output that was to be written
+abbrev pub status_of : Result (Unit {0}) OutputStop → ℕ
+status_of (Ok done) = 0
+status_of (Err output.Failed) = 4
+status_of (Err output.OutOfMemory) = 5

@@ -1,8 +1,9 @@
 //! The read loop.
 
 ghost use Rattle.std.specs.Prelude.{◌≡◌, ℕ, ◌+◌, ◌-◌, ◌<◌, ◌≤◌, List, [], length, IfOk, OnOk, vec_len};
+ghost use Rattle.std.specs.Option.{ForSome};
 ghost use Rattle.hog_outside.specs.Faults.{Rose};
-ghost use Rattle.hog_runner.specs.Takes.{Moves, TakesAtMost};
+ghost use Rattle.hog_runner.specs.Takes.{ReadsInto, TakesAtMost};
 ghost use Rattle.hog_runner.specs.Commands.{most_bytes};
 
 use hog_outside::{Failed, Source};
@@ -49,13 +50,11 @@ impl From<AllocError> for InputStop {
 /// Reads a source to its end, or to one byte past what is taken.
 /// Each turn of the loop takes at least one byte, or is the last.
 pub fn read_all<S: Source>(alloc: Global, source: &mut S) -> Result<Vec<u8>, InputStop>
-    ensures text { IfOk result (λ text. (xs : List ℕ) → S.left source.old ≡ Some xs
-        → text.items ≡ xs) }
-    ensures end { OnOk result ((xs : List ℕ) → S.left source.old ≡ Some xs
-        → S.left source.new ≡ Some []) }
+    ensures text { IfOk result (λ text. ForSome (S.left source.old) (λ bytes. text.items ≡ bytes)) }
+    ensures end { OnOk result (ForSome (S.left source.old) (λ _. S.left source.new ≡ Some [])) }
     ensures small { IfOk result (λ text. vec_len text ≤ most_bytes) }
     ensures large { result ≡ Err InputStop.TooLarge
-        → (xs : List ℕ) → S.left source.old ≡ Some xs → most_bytes < length xs }
+        → ForSome (S.left source.old) (λ bytes. most_bytes < length bytes) }
     ensures failed { result ≡ Err InputStop.Failed
         → Rose (S.faults source.old) (S.faults source.new) }
     ensures bounded { TakesAtMost (most_bytes + 1) (S.left source.old) (S.left source.new) }
@@ -88,10 +87,9 @@ fn read_more<S: Source>(
     requires room { vec_len text.old ≤ most_bytes }
     ensures grown { IfOk result (λ n. vec_len text.new ≡ vec_len text.old + n) }
     ensures most { OnOk result (vec_len text.new ≤ most_bytes + 1) }
-    ensures moves { OnOk result (Moves (S.left source.old) (S.left source.new)
+    ensures moves { OnOk result (ReadsInto (S.left source.old) (S.left source.new)
         text.old.items text.new.items) }
-    ensures end { IfOk result (λ n. n ≡ 0 → (xs : List ℕ) → S.left source.old ≡ Some xs
-        → S.left source.new ≡ Some []) }
+    ensures end { IfOk result (λ n. n ≡ 0 → ForSome (S.left source.old) (λ _. S.left source.new ≡ Some [])) }
     ensures large { ¬ (result ≡ Err InputStop.TooLarge) }
     ensures failed { result ≡ Err InputStop.Failed
         → Rose (S.faults source.old) (S.faults source.new) }
@@ -112,10 +110,9 @@ fn read_some<S: Source>(
     requires { 0 < length buf.old }
     ensures within { IfOk result (λ n. n ≤ length buf.old) }
     ensures grown { IfOk result (λ n. vec_len text.new ≡ vec_len text.old + n) }
-    ensures moves { OnOk result (Moves (S.left source.old) (S.left source.new)
+    ensures moves { OnOk result (ReadsInto (S.left source.old) (S.left source.new)
         text.old.items text.new.items) }
-    ensures end { IfOk result (λ n. n ≡ 0 → (xs : List ℕ) → S.left source.old ≡ Some xs
-        → S.left source.new ≡ Some []) }
+    ensures end { IfOk result (λ n. n ≡ 0 → ForSome (S.left source.old) (λ _. S.left source.new ≡ Some [])) }
     ensures large { ¬ (result ≡ Err InputStop.TooLarge) }
     ensures failed { result ≡ Err InputStop.Failed
         → Rose (S.faults source.old) (S.faults source.new) }

@@ -5,10 +5,14 @@
 //! specs/Writes.antt and Commands.antt say what the program answers for its words and its input.
 #![tactic(auto)]
 
+pub mod answer;
 pub mod causes;
 pub mod input;
 pub mod program;
+mod refusals;
+mod replays;
 pub mod script;
+mod sources;
 pub mod top;
 pub mod words;
 

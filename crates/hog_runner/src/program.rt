@@ -1,11 +1,12 @@
 //! Reading the program that a source has.
 
 ghost use Rattle.std.specs.Prelude.{◌≡◌, ◌≢◌, ℕ, ◌+◌, ◌<◌, ◌≤◌, List, [], length, IfOk, OnOk, Err};
+ghost use Rattle.std.specs.Option.{ForSome};
 ghost use Rattle.hog_outside.specs.Faults.{Rose};
-ghost use Rattle.hog_compiler.specs.Nesting.{deepest, stms_nesting};
+ghost use Rattle.hog_tree.specs.Nesting.{deepest, stms_nesting};
 ghost use Rattle.hog_tree.specs.View.{tree_of};
 ghost use Rattle.hog_program.specs.declared.stop.BuildStop.{BuildStop as Stop};
-ghost use Rattle.hog_runner.specs.Commands.{most_bytes, IsReady, Reads, Rejects};
+ghost use Rattle.hog_runner.specs.Commands.{most_bytes, IsReady, ReadsProgram, Rejects};
 ghost use Rattle.hog_runner.specs.Takes.{TakesAtMost};
 
 use crate::input::{InputStop, read_all};
@@ -57,7 +58,7 @@ impl From<BuildStop> for ProgramStop {
 
 /// Reads the program of a text, as the command asks for it.
 fn read_text(alloc: Global, command: SourceCommand, text: &[u8]) -> Result<Tree, BuildStop>
-    ensures reads { IfOk result (λ tree. Reads command text.now (tree_of tree)) }
+    ensures reads { IfOk result (λ tree. ReadsProgram command text.now (tree_of tree)) }
     ensures low { IfOk result (λ tree. stms_nesting (tree_of tree) ≤ deepest) }
     ensures ready { IfOk result (λ tree. IsReady command (tree_of tree)) }
     ensures rejects { (stop : Stop) → result ≡ Err stop → stop ≢ BuildStop.OutOfMemory
@@ -75,19 +76,15 @@ pub fn read_program<S: Source>(
     command: SourceCommand,
     source: &mut S,
 ) -> Result<Tree, ProgramStop>
-    ensures program { IfOk result (λ tree. (xs : List ℕ) → S.left source.old ≡ Some xs
-        → Reads command xs (tree_of tree)) }
+    ensures program { IfOk result (λ tree. ForSome (S.left source.old) (λ bytes. ReadsProgram command bytes (tree_of tree))) }
     ensures low { IfOk result (λ tree. stms_nesting (tree_of tree) ≤ deepest) }
     ensures ready { IfOk result (λ tree. IsReady command (tree_of tree)) }
-    ensures small { IfOk result (λ tree. (xs : List ℕ) → S.left source.old ≡ Some xs
-        → length xs ≤ most_bytes) }
-    ensures end { OnOk result ((xs : List ℕ) → S.left source.old ≡ Some xs
-        → S.left source.new ≡ Some []) }
+    ensures small { IfOk result (λ tree. ForSome (S.left source.old) (λ bytes. length bytes ≤ most_bytes)) }
+    ensures end { OnOk result (ForSome (S.left source.old) (λ _. S.left source.new ≡ Some [])) }
     ensures large { result ≡ Err ProgramStop.TooLarge
-        → (xs : List ℕ) → S.left source.old ≡ Some xs → most_bytes < length xs }
+        → ForSome (S.left source.old) (λ bytes. most_bytes < length bytes) }
     ensures refused { (stop : Stop) → result ≡ Err (ProgramStop.Refused stop)
-        → (xs : List ℕ) → S.left source.old ≡ Some xs
-        → (length xs ≤ most_bytes) × Rejects command xs stop }
+        → ForSome (S.left source.old) (λ bytes. (length bytes ≤ most_bytes) × Rejects command bytes stop) }
     ensures failed { result ≡ Err ProgramStop.ReadFailed
         → Rose (S.faults source.old) (S.faults source.new) }
     ensures bounded { TakesAtMost (most_bytes + 1) (S.left source.old) (S.left source.new) }

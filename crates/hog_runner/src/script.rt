@@ -1,6 +1,7 @@
 //! Reading the script that a source has.
 
 ghost use Rattle.std.specs.Prelude.{◌≡◌, ◌≢◌, ℕ, ◌+◌, ◌<◌, ◌≤◌, List, [], length, IfOk, OnOk, Err, Some};
+ghost use Rattle.std.specs.Option.{ForSome};
 ghost use Rattle.hog_outside.specs.Faults.{Rose};
 ghost use Rattle.script_reader.specs.Script.{IsNoScript};
 ghost use Rattle.script_reader.specs.declared.step.ScriptStop.{ScriptStop as Stop};
@@ -54,15 +55,12 @@ impl From<ScriptStop> for NoScript {
 
 /// Reads the script that the source has.
 pub fn read_source_script<S: Source>(alloc: Global, source: &mut S) -> Result<Script, NoScript>
-    ensures script { IfOk result (λ script. (xs : List ℕ) → S.left source.old ≡ Some xs
-        → ScriptOf xs script) }
-    ensures end { OnOk result ((xs : List ℕ) → S.left source.old ≡ Some xs
-        → S.left source.new ≡ Some []) }
+    ensures script { IfOk result (λ script. ForSome (S.left source.old) (λ bytes. ScriptOf bytes script)) }
+    ensures end { OnOk result (ForSome (S.left source.old) (λ _. S.left source.new ≡ Some [])) }
     ensures large { result ≡ Err NoScript.TooLarge
-        → (xs : List ℕ) → S.left source.old ≡ Some xs → most_bytes < length xs }
+        → ForSome (S.left source.old) (λ bytes. most_bytes < length bytes) }
     ensures refused { (stop : Stop) → result ≡ Err (NoScript.Refused stop)
-        → (xs : List ℕ) → S.left source.old ≡ Some xs
-        → (length xs ≤ most_bytes) × IsNoScript xs stop }
+        → ForSome (S.left source.old) (λ bytes. (length bytes ≤ most_bytes) × IsNoScript bytes stop) }
     ensures failed { result ≡ Err NoScript.ReadFailed
         → Rose (S.faults source.old) (S.faults source.new) }
     ensures bounded { TakesAtMost (most_bytes + 1) (S.left source.old) (S.left source.new) }

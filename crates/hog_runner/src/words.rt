@@ -1,7 +1,7 @@
 //! The words that the program takes.
 
 ghost use Rattle.std.specs.Prelude.{◌≡◌};
-ghost use Rattle.hog_runner.specs.Commands.{command_of, named};
+ghost use Rattle.hog_runner.specs.Commands.{command_named, command_of};
 
 use hog_value::HogText;
 use std::convert::AsStr;
@@ -31,14 +31,14 @@ pub fn command_of(words: &[HogText]) -> Option<Command>
     ensures { result ≡ command_of words.now }
 {
     match words {
-        [word] => named(word),
+        [word] => command_named(word),
         _ => None,
     }
 }
 
 /// The command of that name.
-fn named(word: &HogText) -> Option<Command>
-    ensures { result ≡ named word.now }
+fn command_named(word: &HogText) -> Option<Command>
+    ensures { result ≡ command_named word.now }
 {
     match word.as_str() {
         "eval" => Some(Command::Source(SourceCommand::Eval)),

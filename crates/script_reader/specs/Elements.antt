@@ -10,7 +10,7 @@ use Rattle.hog_json.specs.Nulled.{nulled_text}
 use Rattle.cyclotron_jobs.specs.declared.input.Answers.TheVariants.{Free}
 use Rattle.cyclotron_jobs.specs.declared.row.QueueName.{QueueName}
 use Rattle.cyclotron_jobs.specs.declared.row.QueueName.TheVariants as queue
-use Rattle.script_reader.specs.Globals.{most_globals}
+use Rattle.hog_jobs.specs.Inputs.{most_globals}
 use Rattle.script_reader.specs.declared.step.Step.{Step}
 use Rattle.script_reader.specs.declared.step.Step.TheVariants.{Enqueue, Take, Beat, Work, Answer, Flush, Sweep, Lose, Forge, Back}
 

@@ -1,4 +1,3 @@
-pub mod Globals
 pub mod Elements
 pub mod Steps
 pub mod Script

@@ -3,12 +3,12 @@ use Rattle.std.specs.Prelude.{◌≡◌, ◌≤◌}
 use Rattle.hog_ops.specs.Plain.{Ops}
 use Rattle.hog_program.specs.Program.{HasCode}
 use Rattle.cyclotron_jobs.specs.declared.input.Answers.TheVariants.{Free}
-use Rattle.script_reader.specs.Globals.{IsGlobals}
+use Rattle.hog_jobs.specs.Inputs.{IsGlobals}
 use Rattle.script_reader.specs.Elements.{most_worker, most_moment, most_slice, most_job}
 use Rattle.script_reader.specs.declared.step.Step.{Step}
 use Rattle.script_reader.specs.declared.step.Step.TheVariants.{Enqueue, Take, Beat, Work, Answer, Flush, Sweep, Lose, Forge, Back}
 
--- Its numbers are in their ranges. The globals of an enqueue are kept ones, and its job takes any reply.
+-- Its numbers are in their ranges. The globals of an enqueue are those that a job may have, and its job takes any reply.
 abbrev pub IsInRange : Step → Type 0
 IsInRange (Enqueue input priority at) = IsGlobals input.globals × (input.answers ≡ Free) × (at ≤ most_moment)
 IsInRange (Take worker on now) = (worker ≤ most_worker) × (now ≤ most_moment)

@@ -17,10 +17,43 @@ use std::marker::Model;
 /// The most steps of a script.
 const MOST_STEPS: usize = 65_536;
 
-/// A script: at most 65,536 steps, each fit to be played.
+/// Steps in order. Contracts see the list.
+#[derive(Drop)]
+pub struct StepList {
+    steps: Vec<Step>,
+}
+
+impl Model for StepList {
+    ghost use Rattle.std.specs.Prelude.{List};
+    ghost use Rattle.script_reader.specs.declared.step.Step.{Step};
+
+    ghost Value = { List Step };
+
+    ghost view = { λ l. l.steps.items };
+}
+
+impl StepList {
+    ghost use Rattle.std.specs.Prelude.{◌≡◌};
+
+    /// Takes no memory.
+    pub fn new(steps: Vec<Step>) -> StepList
+        ensures { result ≡ steps.items }
+    {
+        StepList { steps }
+    }
+
+    /// The steps. Takes no memory.
+    pub fn items(&self) -> &[Step]
+        ensures { result.now ≡ self.now }
+    {
+        self.steps.as_slice()
+    }
+}
+
+/// A script: at most 65,536 steps, each fit to be played. Who makes one shows this of the steps.
 #[derive(Drop)]
 pub struct Script {
-    steps: Vec<Step>,
+    pub steps: StepList,
 }
 
 impl Model for Script {
@@ -32,25 +65,9 @@ impl Model for Script {
 
     ghost Value = { List Step };
 
-    ghost view = { λ s. s.steps.items };
+    ghost view = { λ s. s.steps };
 
-    ghost invariant = { λ s. (length s.steps.items ≤ most_steps) × All IsFit s.steps.items };
-}
-
-impl Script {
-    ghost use Rattle.std.specs.Prelude.{◌≡◌, ◌≤◌, length};
-    ghost use Rattle.std.specs.List.{All};
-    ghost use Rattle.script_reader.specs.Script.{most_steps};
-    ghost use Rattle.script_reader.specs.Steps.{IsFit};
-
-    /// The steps, each of which is fit to be played. Takes no memory.
-    pub fn steps(&self) -> &[Step]
-        ensures value { result.now ≡ self.now }
-        ensures fit { All IsFit self.now }
-        ensures few { length self.now ≤ most_steps }
-    {
-        self.steps.as_slice()
-    }
+    ghost invariant = { λ s. (length s.steps ≤ most_steps) × All IsFit s.steps };
 }
 
 /// The script of these elements.
@@ -75,7 +92,9 @@ fn script_of(alloc: Global, elements: &[Value]) -> Result<Script, ScriptStop>
             None => steps.push(step)?,
         }
     }
-    Ok(Script { steps })
+    Ok(Script {
+        steps: StepList::new(steps),
+    })
 }
 
 /// The script that a JSON value is.

@@ -4,7 +4,7 @@ ghost use Rattle.std.specs.Prelude.{◌≡◌, ◌≤◌, IfOk, IfSome};
 ghost use Rattle.serde_json.specs.Data.{depth};
 ghost use Rattle.serde_json.specs.View.{view};
 ghost use Rattle.script_reader.specs.Elements.{globals_in, moment_in, most_moment, most_slice, most_worker, number_in, priority_in, queue_in, queue_named, slice_in, worker_in};
-ghost use Rattle.script_reader.specs.Globals.{IsGlobals};
+ghost use Rattle.hog_jobs.specs.Inputs.{IsGlobals};
 
 use cyclotron_jobs::row::QueueName;
 use hog_json::{GlobalsStop, globals_text};

@@ -1,19 +1,17 @@
 -- What a flush does, from what its step says.
-use Rattle.std.proofs.Common.{◌≡◌, ◌≢◌, ◌⊎◌, inl, inr, ℕ, ◌<◌, ◌≤◌, List, [], ◌∷◌, ◌++◌, Option, Some, refl, sym, ap, ◌∙◌, subst, arith, ⊎_elim}
+use Rattle.std.proofs.Common.{◌≡◌, ◌⊎◌, inl, inr, ℕ, [], ◌∷◌, ◌++◌, Option, Some, refl, sym, ap, ◌∙◌, subst, arith, ⊎_elim}
 use Rattle.std.specs.Prelude.{slice_get, slice_set}
 use Rattle.std.proofs.lemmas.List.{set-get_or}
 use Rattle.std.proofs.lemmas.Option.{get_or_from_slice_get}
 use Rattle.lock_ids.specs.declared.lock.LockId.{LockId}
-use Rattle.cyclotron_jobs.specs.declared.row.Row.{Row}
-use Rattle.cyclotron_jobs.specs.declared.entry.Entry.{Entry}
 use Rattle.cyclotron_jobs.specs.declared.refused.LeaseStop.{LeaseStop}
 use Rattle.cyclotron_jobs.specs.declared.refused.LeaseStop.TheVariants as stop
 use Rattle.cyclotron_core.specs.Refusals.{IsOwner}
 use Rattle.script_steps.specs.declared.said.Held.{Held}
 use Rattle.script_steps.specs.declared.said.Product.{Product}
 use Rattle.script_steps.specs.declared.said.Said.{Said}
-use Rattle.script_steps.specs.declared.said.Said.TheVariants.{Job, Full, Taken, Busy, Nothing, Idle, Fine, Sliced, Asks, Ended, Answered, Poisoned, Refused, Keeper}
-use Rattle.script_steps.specs.Play.{Place, Stage, Stays, IsRefused, HoldsProduct, ProductBegan, Flushes, ByWorker, at_hand, entry_of}
+use Rattle.script_steps.specs.declared.said.Said.TheVariants.{Idle, Fine, Refused}
+use Rattle.script_steps.specs.Play.{Scene, Stage, Stays, IsRefused, ProductBegan, Flushes, at_hand, entry_of}
 use Rattle.script_steps.specs.Headline.{DeadFlushChangesNothing, LiveFlushIsDone}
 use Rattle.script_steps.proofs.Snoc.{same_stage}
 
@@ -27,7 +25,7 @@ same_product : (o : Option Product) (a b : Product) → o ≡ Some a → o ≡ S
 same_product o a b p q = cc
 
 -- a flush under a lock that is not live leaves its worker's place as it was
-dead_place : (old new : Place) (said : Said) (held : Held) → old.hand ≡ Some held → ¬ (IsOwner old.history held.lock) → Flushes old said new → Stays old new
+dead_place : (old new : Scene) (said : Said) (held : Held) → old.hand ≡ Some held → ¬ (IsOwner old.history held.lock) → Flushes old said new → Stays old new
 dead_place old new Idle held is dead act = act.1
 dead_place old new Fine held is dead act =
     let same = same_held old.hand act.holds.held held act.holds.is is in
@@ -36,14 +34,14 @@ dead_place old new (Refused why) held is dead act = act.stays
 dead_place old new said held is dead act = absurd act
 
 -- under the live lock nothing but the keeper's fault is left to refuse what began at the committed state
-refused_live : (old : Place) (lock : LockId) (began : Type 0) (why : LeaseStop) → IsRefused old.history lock began why → IsOwner old.history lock → began → why ≡ stop.Keeper
+refused_live : (old : Scene) (lock : LockId) (began : Type 0) (why : LeaseStop) → IsRefused old.history lock began why → IsOwner old.history lock → began → why ≡ stop.Keeper
 refused_live old lock began stop.UnknownJob is owner here = let late = is.cause in absurd (omega (arith, late, owner.there))
 refused_live old lock began (stop.WrongLock live) is owner here = absurd (is.cause.other (sym is.cause.owner ∙ owner.owner))
 refused_live old lock began stop.NotThisRun is owner here = absurd (is.cause.1 here)
 refused_live old lock began stop.OutOfMemory is owner here = absurd (is.said refl)
 refused_live old lock began stop.Keeper is owner here = refl
 
-live_place : (old new : Place) (said : Said) (held : Held) (product : Product) → old.hand ≡ Some held → held.product ≡ Some product
+live_place : (old new : Scene) (said : Said) (held : Held) (product : Product) → old.hand ≡ Some held → held.product ≡ Some product
     → IsOwner old.history held.lock → ProductBegan old.rows held.lock.job product → Flushes old said new
     → ((said ≡ Fine) × (new.history ≡ old.history ++ entry_of held.lock product ∷ [])) ⊎ ((said ≡ Refused stop.Keeper) × Stays old new)
 live_place old new Idle held product is has owner began act = absurd (act.0 (record { held = held; is = is; product = product; made = has }))

@@ -1,5 +1,5 @@
 -- Steps of a play, from what the calls of a queue do.
-use Rattle.std.proofs.Common.{◌≡◌, ◌≢◌, ℕ, zero, suc, ◌+◌, ◌<◌, ◌≤◌, ◌⊎◌, ◌^◌, inl, inr, List, [], ◌∷◌, Option, Some, None, Bool, true, false, cond, length, refl, sym, ap, ◌∙◌, subst, arith, ⊎_elim}
+use Rattle.std.proofs.Common.{◌≡◌, ◌≢◌, ℕ, zero, suc, ◌+◌, ◌≤◌, inl, inr, List, [], ◌∷◌, Option, Some, None, Bool, true, false, cond, length, refl, ap, ◌∙◌, arith}
 use Rattle.hog_outside.specs.Faults.{Rose}
 use Rattle.lock_ids.specs.declared.lock.LockId.{LockId}
 use Rattle.cyclotron_jobs.specs.declared.entry.Entry.{Entry}
@@ -11,15 +11,14 @@ use Rattle.cyclotron_core.specs.Queue.{QueueOf}
 use Rattle.std.specs.Prelude.{slice_get, slice_set, nat_le}
 use Rattle.cyclotron_jobs.specs.declared.row.JobState.{JobState}
 use Rattle.cyclotron_jobs.specs.declared.row.JobState.TheVariants.{Available, Failed}
-use Rattle.queue_history.specs.Facts.{swept_state}
 use Rattle.cyclotron_core.specs.Changes.{IsOneStep, IsSweep, IsUntouched, row_after_sweep}
 use Rattle.cyclotron_core.specs.Refusals.{Refuses}
 use Rattle.script_steps.specs.declared.said.Held.{Held}
 use Rattle.script_steps.specs.declared.said.Said.{Said}
-use Rattle.script_steps.specs.declared.said.Said.TheVariants.{Job, Full, Taken, Busy, Nothing, Idle, Fine, Sliced, Asks, Ended, Answered, Poisoned, Refused, Keeper}
+use Rattle.script_steps.specs.declared.said.Said.TheVariants.{Idle, Fine, Refused}
 use Rattle.cyclotron_jobs.specs.declared.row.After.{After}
 use Rattle.cyclotron_jobs.specs.declared.row.After.TheVariants as after
-use Rattle.script_steps.specs.Play.{Place, place_of, Stays, Appends, Swept, IsRefused, Works, Replies, Loses, Forges, RoseBy, faults_in, said_of}
+use Rattle.script_steps.specs.Play.{Scene, scene_of, Stays, Appends, Swept, IsRefused, Works, Replies, Loses, Forges, RoseBy, faults_in, said_of}
 
 pub rose_none : (a b : ℕ) → a ≤ b → RoseBy 0 a b
 rose_none a b le = inl (omega (arith, le))
@@ -43,11 +42,11 @@ refused_of history lock began rose stop.NotThisRun h said = record { cause = h; 
 refused_of history lock began rose stop.OutOfMemory h said = absurd (said refl)
 refused_of history lock began rose stop.Keeper h said = record { cause = (h.0, h.1, tt); said = said }
 
-pub stays_of : {K : Type 0} {tells : Bool} {held : K → ℕ → Option Row} {old new : QueueOf K} (hand : Option Held) → IsUntouched tells held old new → Stays (place_of old hand) (place_of new hand)
+pub stays_of : {K : Type 0} {tells : Bool} {held : K → ℕ → Option Row} {old new : QueueOf K} (hand : Option Held) → IsUntouched tells held old new → Stays (scene_of old hand) (scene_of new hand)
 stays_of hand is = record { rows = is.rows; history = is.history; hand = refl }
 
 pub appends_of : {K : Type 0} {tells : Bool} {held : K → ℕ → Option Row} {old new : QueueOf K} {job : ℕ} {change : Row → Row} {e : Entry} (before after : Option Held)
-    → IsOneStep tells held old new job change e → Appends (place_of old before) (place_of new after) job change e after
+    → IsOneStep tells held old new job change e → Appends (scene_of old before) (scene_of new after) job change e after
 appends_of before after is = record { before = is.before; there = is.there; rows = is.rows; history = is.history; held = refl }
 
 -- ---- sweeps
@@ -64,7 +63,7 @@ swept_row {old = old} now job is =
     ap (λ (rows : List Row). slice_get rows job) is.step.rows ∙ set_there old.rows job is.step.before (row_after_sweep now is.step.before) is.step.there
 
 pub swept_of : {K : Type 0} {tells : Bool} {held : K → ℕ → Option Row} {old new : QueueOf K} (now job : ℕ) → IsSweep tells held old new now job
-    → (state : JobState) → ((row : Row) → slice_get new.rows job ≡ Some row → row.state ≡ state) → Swept now (place_of old None) (place_of new None) job state
+    → (state : JobState) → ((row : Row) → slice_get new.rows job ≡ Some row → row.state ≡ state) → Swept now (scene_of old None) (scene_of new None) job state
 swept_of now job is state states = record {
   first = is.first;
   step = record { before = is.step.before; there = is.step.there; rows = is.step.rows; history = is.step.history; held = refl };
@@ -76,7 +75,7 @@ available_by true differs = absurd (differs refl)
 available_by false differs = refl
 
 pub swept_open : {K : Type 0} {tells : Bool} {held : K → ℕ → Option Row} {old new : QueueOf K} (now job : ℕ) → IsSweep tells held old new now job
-    → ((row : Row) → slice_get new.rows job ≡ Some row → row.state ≢ Failed) → Swept now (place_of old None) (place_of new None) job Available
+    → ((row : Row) → slice_get new.rows job ≡ Some row → row.state ≢ Failed) → Swept now (scene_of old None) (scene_of new None) job Available
 swept_open now job is open_row = record {
   first = is.first;
   step = record { before = is.step.before; there = is.step.there; rows = is.step.rows; history = is.step.history; held = refl };
@@ -93,20 +92,20 @@ said_no_fault after.Finished ops = refl
 rose_by : (n a b : ℕ) → n ≡ 0 → a ≤ b → RoseBy n a b
 rose_by n a b none le = inl (omega (arith, none, le))
 
-pub works_rose : (slice : ℕ) (old new : Place) (said : Said) (a b : ℕ) → Works slice old said new → a ≤ b → RoseBy (faults_in said) a b
+pub works_rose : (slice : ℕ) (old new : Scene) (said : Said) (a b : ℕ) → Works slice old said new → a ≤ b → RoseBy (faults_in said) a b
 works_rose slice old new said a b (inl idle) le = rose_by (faults_in said) a b (ap faults_in idle.0) le
 works_rose slice old new said a b (inr worked) le = rose_by (faults_in said) a b (ap faults_in worked.word ∙ said_no_fault worked.run.after worked.run.to) le
 
-pub replies_rose : (reply : Reply) (old new : Place) (said : Said) (a b : ℕ) → Replies reply old said new → a ≤ b → RoseBy (faults_in said) a b
+pub replies_rose : (reply : Reply) (old new : Scene) (said : Said) (a b : ℕ) → Replies reply old said new → a ≤ b → RoseBy (faults_in said) a b
 replies_rose reply old new said a b (inl idle) le = rose_by (faults_in said) a b (ap faults_in idle.0) le
 replies_rose reply old new said a b (inr replied) le = rose_by (faults_in said) a b (ap faults_in replied.word) le
 
-pub loses_rose : (old new : Place) (said : Said) (a b : ℕ) → Loses old said new → a ≤ b → RoseBy (faults_in said) a b
+pub loses_rose : (old new : Scene) (said : Said) (a b : ℕ) → Loses old said new → a ≤ b → RoseBy (faults_in said) a b
 loses_rose old new Idle a b h le = rose_none a b le
 loses_rose old new Fine a b h le = rose_none a b le
 loses_rose old new said a b h le = absurd h
 
-pub forges_rose : (lock : LockId) (old new : Place) (said : Said) (a b : ℕ) → Forges lock old said new → a ≤ b → RoseBy (faults_in said) a b
+pub forges_rose : (lock : LockId) (old new : Scene) (said : Said) (a b : ℕ) → Forges lock old said new → a ≤ b → RoseBy (faults_in said) a b
 forges_rose lock old new Idle a b h le = rose_none a b le
 forges_rose lock old new Fine a b h le = rose_none a b le
 forges_rose lock old new said a b h le = absurd h

@@ -1,5 +1,5 @@
 -- One step more of a play.
-use Rattle.std.proofs.Common.{◌≡◌, ℕ, ◌+◌, ◌<◌, ◌≤◌, ◌⊎◌, ◌^◌, inl, inr, List, [], ◌∷◌, ◌++◌, Option, length, get_or, take, drop, refl, sym, ap, ◌∙◌, subst, append_assoc, arith}
+use Rattle.std.proofs.Common.{◌≡◌, ℕ, ◌+◌, ◌<◌, inl, inr, List, [], ◌∷◌, ◌++◌, Option, length, get_or, take, drop, refl, sym, ap, ◌∙◌, subst, append_assoc, arith}
 use Rattle.std.specs.Prelude.{sum_by}
 use Rattle.std.proofs.lemmas.List.{append-nil, drop_all, take_all, take_more}
 use Rattle.std.proofs.lemmas.List.Sums.{sum_by_push}
@@ -54,11 +54,6 @@ step_lines-more steps i s first old saids said within here played =
     let whole : take i steps ++ s ∷ [] ≡ take (i + 1) steps = ap (λ x. take i steps ++ x ∷ []) here ∙ sym (take_more steps i s within) in
     ap (λ (front : List Step). step_lines front (saids ++ said ∷ [])) (sym whole) ∙ step_lines-push (take i steps) s first old saids said played
 
--- no step was played yet
-pub part_none : (steps : List Step) → PlaysPart steps []
-part_none [] = Some_steps 0 [] empty_stage refl refl
-part_none (s ∷ steps) = Some_steps 0 [] empty_stage refl refl
-
 -- ---- the keeper's faults
 
 pub rose_more : (n m a b c : ℕ) → RoseBy n a b → RoseBy m b c → RoseBy (n + m) a c
@@ -77,6 +72,11 @@ rose_push saids said a b c p q =
 -- no step was played yet, and no fault was said
 pub rose_begin : (a : ℕ) → RoseBy (sum_by faults_in []) a a
 rose_begin a = inl (omega arith)
+
+-- so no line is there
+pub part_none : {K : Type 0} (faults : K → ℕ) (keeper : K) (steps : List Step) → PlaysPart faults keeper steps []
+part_none faults keeper [] = Some_steps 0 [] empty_stage refl (record { last = keeper; rose = rose_begin (faults keeper) }) refl
+part_none faults keeper (s ∷ steps) = Some_steps 0 [] empty_stage refl (record { last = keeper; rose = rose_begin (faults keeper) }) refl
 
 -- hands that were written back whole
 pub written : {A : Type 0} (len : ℕ) (xs items : List A) → length xs ≡ length items → len ≡ length items → take len (xs ++ drop (length xs) items) ≡ xs

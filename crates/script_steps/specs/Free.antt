@@ -1,5 +1,5 @@
 -- Jobs of scripts take any reply.
-use Rattle.std.specs.Prelude.{◌≡◌, List, Option, IfSome}
+use Rattle.std.specs.Prelude.{◌≡◌, Option, IfSome}
 use Rattle.std.specs.List.{All}
 use Rattle.cyclotron_jobs.specs.declared.input.JobInput.{JobInput}
 use Rattle.cyclotron_jobs.specs.declared.input.Answers.TheVariants.{Free}

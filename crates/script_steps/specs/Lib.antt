@@ -3,3 +3,4 @@ pub mod Free
 pub mod Headline
 pub mod Lines
 pub mod Plays
+pub mod Stops

@@ -1,5 +1,5 @@
 -- What is written where steps are played from an empty queue.
-use Rattle.std.specs.Prelude.{◌≡◌, ℕ, List, [], ◌++◌, Option, None, length, sum_by, take}
+use Rattle.std.specs.Prelude.{◌≡◌, ℕ, List, [], ◌++◌, None, sum_by, take}
 use Rattle.std.specs.Prelude.{replicate}
 use Rattle.cyclotron_jobs.specs.declared.row.Row.{Row}
 use Rattle.cyclotron_jobs.specs.declared.entry.Entry.{Entry}
@@ -23,9 +23,16 @@ pub record Plays (before after : ℕ) (steps : List Step) (rows : List Row) (his
   pub lines : out ≡ step_lines steps saids ++ closing_lines rows history
   pub faults : RoseBy (sum_by faults_in saids) before after
 
+-- No more of the keeper's faults are said than its count rose to that of some keeper of its type. So none is said where the count
+-- of such keepers never rises.
+pub record FitsKeeper {K : Type 0} (faults : K → ℕ) (keeper : K) (saids : List Said) : Type 0 where
+  pub last : K
+  pub rose : RoseBy (sum_by faults_in saids) (faults keeper) (faults last)
+
 -- the first steps, as many as were played, and their lines; after the last the lines of the jobs and the counts may come
-pub data PlaysPart (steps : List Step) (out : List ℕ) : Type 0 where
+pub data PlaysPart {K : Type 0} (faults : K → ℕ) (keeper : K) (steps : List Step) (out : List ℕ) : Type 0 where
   Some_steps : (n : ℕ) (saids : List Said) (stage : Stage) → PlaysOn (take n steps) empty_stage saids stage
-      → out ≡ step_lines (take n steps) saids → PlaysPart steps out
+      → FitsKeeper faults keeper saids → out ≡ step_lines (take n steps) saids → PlaysPart faults keeper steps out
   All_steps : (saids : List Said) (stage : Stage) → PlaysOn steps empty_stage saids stage
-      → out ≡ step_lines steps saids ++ closing_lines stage.rows stage.history → PlaysPart steps out
+      → FitsKeeper faults keeper saids → out ≡ step_lines steps saids ++ closing_lines stage.rows stage.history
+      → PlaysPart faults keeper steps out

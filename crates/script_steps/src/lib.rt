@@ -10,6 +10,8 @@ mod lines;
 pub mod player;
 pub mod said;
 mod steps;
+pub mod stop;
 
 pub use player::{Played, play};
 pub use said::{Held, Product, Said};
+pub use stop::PlayStop;

@@ -4,7 +4,7 @@ ghost use Rattle.std.specs.Prelude.{◌≡◌, ◌≤◌, ◌++◌, IfOk, OnOk, 
 ghost use Rattle.std.specs.Fmt.{decimal};
 ghost use Rattle.hog_json.specs.Lines.{ended};
 ghost use Rattle.hog_outside.specs.Faults.{Rose};
-ghost use Rattle.line_writer.specs.Added.{Adds, AddsPrefix};
+ghost use Rattle.line_writer.specs.Added.{AddsBytes, AddsPrefix};
 ghost use Rattle.lock_ids.specs.Lock.{id_text};
 ghost use Rattle.script_steps.specs.Lines.{backs_text, closing_lines, count_of, counts_line, job_line, kind_of, lock_text, poisoned_line, poisoned_lines, row_lines, said_text, state_text, step_line, stop_text, word_of};
 
@@ -116,7 +116,7 @@ pub(crate) fn write_step<W: Sink>(
     step: &Step,
     said: Said,
 ) -> Result<(), OutputStop>
-    ensures ok { OnOk result (Adds (W.taken sink.old) (W.taken sink.new) (ended (step_line step.now said))) }
+    ensures ok { OnOk result (AddsBytes (W.taken sink.old) (W.taken sink.new) (ended (step_line step.now said))) }
     ensures prefix { AddsPrefix (W.taken sink.old) (W.taken sink.new) (ended (step_line step.now said)) }
     ensures failed { result ≡ Err OutputStop.Failed
         → Rose (W.faults sink.old) (W.faults sink.new) }
@@ -171,7 +171,7 @@ fn poisoned_line(alloc: Global, sweeps: &[(u64, u64)]) -> Result<String, AllocEr
 
 /// Writes the line of a job's sweeps, where it failed.
 fn write_poisoned<W: Sink>(alloc: Global, sink: &mut W, row: &Row) -> Result<(), OutputStop>
-    ensures ok { OnOk result (Adds (W.taken sink.old) (W.taken sink.new)
+    ensures ok { OnOk result (AddsBytes (W.taken sink.old) (W.taken sink.new)
         (poisoned_lines row.now.state row.now.sweeps)) }
     ensures prefix { AddsPrefix (W.taken sink.old) (W.taken sink.new)
         (poisoned_lines row.now.state row.now.sweeps) }
@@ -193,7 +193,7 @@ fn write_poisoned<W: Sink>(alloc: Global, sink: &mut W, row: &Row) -> Result<(),
 
 /// Writes the lines of a job.
 fn write_row<W: Sink>(alloc: Global, sink: &mut W, row: &Row) -> Result<(), OutputStop>
-    ensures ok { OnOk result (Adds (W.taken sink.old) (W.taken sink.new) (row_lines row.now)) }
+    ensures ok { OnOk result (AddsBytes (W.taken sink.old) (W.taken sink.new) (row_lines row.now)) }
     ensures prefix { AddsPrefix (W.taken sink.old) (W.taken sink.new) (row_lines row.now) }
     ensures failed { result ≡ Err OutputStop.Failed
         → Rose (W.faults sink.old) (W.faults sink.new) }
@@ -211,7 +211,7 @@ fn write_rows<W: Sink, K: Keeper>(
     sink: &mut W,
     queue: &QueueState<HogCourse, K>,
 ) -> Result<(), OutputStop>
-    ensures ok { OnOk result (Adds (W.taken sink.old) (W.taken sink.new) (flat_map row_lines queue.now.rows)) }
+    ensures ok { OnOk result (AddsBytes (W.taken sink.old) (W.taken sink.new) (flat_map row_lines queue.now.rows)) }
     ensures prefix { AddsPrefix (W.taken sink.old) (W.taken sink.new) (flat_map row_lines queue.now.rows) }
     ensures failed { result ≡ Err OutputStop.Failed
         → Rose (W.faults sink.old) (W.faults sink.new) }
@@ -297,7 +297,7 @@ pub(crate) fn write_closing<W: Sink, K: Keeper>(
     sink: &mut W,
     queue: &QueueState<HogCourse, K>,
 ) -> Result<(), OutputStop>
-    ensures ok { OnOk result (Adds (W.taken sink.old) (W.taken sink.new)
+    ensures ok { OnOk result (AddsBytes (W.taken sink.old) (W.taken sink.new)
         (closing_lines queue.now.rows queue.now.history)) }
     ensures prefix { AddsPrefix (W.taken sink.old) (W.taken sink.new)
         (closing_lines queue.now.rows queue.now.history) }

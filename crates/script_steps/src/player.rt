@@ -1,8 +1,8 @@
 //! Playing scripts on a queue.
 
-ghost use Rattle.std.specs.Prelude.{◌≡◌, ◌≤◌, ℕ, List, length, replicate, Option, None, IfOk};
+ghost use Rattle.std.specs.Prelude.{◌≡◌, ◌≤◌, replicate, None, IfOk};
 ghost use Rattle.hog_outside.specs.Faults.{Rose};
-ghost use Rattle.line_writer.specs.Added.{Adds, AddsPrefix};
+ghost use Rattle.line_writer.specs.Added.{AddsSome, AddsSomePrefix};
 ghost use Rattle.hog_jobs.specs.Rows.{KeepsTheMeaning};
 ghost use Rattle.script_steps.specs.Headline.{DeadFlushChangesNothing, LiveFlushIsDone};
 ghost use Rattle.script_steps.specs.Plays.{Plays, PlaysPart};
@@ -11,11 +11,11 @@ use crate::laws::{dead_flush, keeps_the_meaning, live_flush};
 use crate::lines::{write_closing, write_step};
 use crate::said::Held;
 use crate::steps::act;
+use crate::stop::PlayStop;
 use cyclotron_core::queue::QueueState;
 use hog_jobs::HogCourse;
 use hog_outside::Sink;
 use job_keeper::keeper::Keeper;
-use line_writer::OutputStop;
 use script_reader::Script;
 use std::alloc::{AllocError, Global};
 
@@ -46,12 +46,12 @@ pub fn play<K: Keeper, W: Sink>(
     script: &Script,
     keeper: K,
     sink: &mut W,
-) -> Result<Played<K>, OutputStop>
-    ensures played { IfOk result (λ played. (out : List ℕ)
-        × Plays (K.faults keeper) (K.faults played.jobs.keeper) script.now played.jobs.rows played.jobs.history out
-        × Adds (W.taken sink.old) (W.taken sink.new) out) }
-    ensures prefix { (out : List ℕ) × PlaysPart script.now out
-        × AddsPrefix (W.taken sink.old) (W.taken sink.new) out }
+) -> Result<Played<K>, PlayStop>
+    // The queue is where the play of the steps leads, and all lines were written. After a refusal the lines of the steps
+    // that were played were, or a prefix of them.
+    ensures played { IfOk result (λ played. AddsSome (W.taken sink.old) (W.taken sink.new)
+        (Plays (K.faults keeper) (K.faults played.jobs.keeper) script.now played.jobs.rows played.jobs.history)) }
+    ensures prefix { AddsSomePrefix (W.taken sink.old) (W.taken sink.new) (PlaysPart K.faults keeper script.now) }
 
     // Whatever was played: each job's committed trace is a beginning of the meaning of its source on its committed
     // replies, and a completed job's trace and end are that meaning.
@@ -62,15 +62,14 @@ pub fn play<K: Keeper, W: Sink>(
     ensures live_flush { LiveFlushIsDone }
 
     // A write fails only by a fault of the sink, whose count never falls.
-    ensures failed { result ≡ Err OutputStop.Failed
-        → Rose (W.faults sink.old) (W.faults sink.new) }
+    ensures failed { result ≡ Err PlayStop.Write → Rose (W.faults sink.old) (W.faults sink.new) }
     ensures count { W.faults sink.old ≤ W.faults sink.new }
 {
     dead_flush();
     live_flush();
     let mut hands = empty_hands(alloc)?;
     let mut queue = QueueState::new(alloc, keeper);
-    for step in script.steps() {
+    for step in script.steps.items() {
         let said = act(alloc, &mut queue, &mut hands, step)?;
         write_step(alloc, sink, step, said)?;
     }

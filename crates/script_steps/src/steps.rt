@@ -9,7 +9,7 @@ ghost use Rattle.cyclotron_core.specs.Refusals.{IsOwner, KeeperRose, Refuses};
 ghost use Rattle.hog_jobs.specs.Inputs.{IsInput};
 ghost use Rattle.script_reader.specs.Steps.{IsFit};
 ghost use Rattle.script_steps.specs.Free.{HandIsFree, IsFree};
-ghost use Rattle.script_steps.specs.Play.{Acts, Backs, Beats, Enqueues, Flushes, Forges, Loses, Moves, ProductBegan, Replies, RoseBy, Sweeps, Takes, Works, answer_to, entry_of, faults_in, place_at, place_of, row_after, said_of, stage_of, worker_of};
+ghost use Rattle.script_steps.specs.Play.{Acts, Backs, Beats, Enqueues, Flushes, Forges, Loses, ActsAt, ProductBegan, Replies, RoseBy, Sweeps, Takes, Works, answer_to, entry_of, faults_in, scene_at, scene_of, row_after, said_of, stage_of, worker_of};
 
 use crate::said::{Held, Product, Said};
 use cyclotron_core::queue::QueueState;
@@ -19,7 +19,6 @@ use cyclotron_jobs::lease::{Advance, Answered, Lease};
 use cyclotron_jobs::refused::{LeaseStop, Refused};
 use cyclotron_jobs::row::{After, JobState, QueueName};
 use hog_jobs::HogCourse;
-use hog_jobs::laws::kept_globals;
 use hog_worker::work;
 use job_keeper::keeper::Keeper;
 use lock_ids::lock::LockId;
@@ -35,7 +34,7 @@ fn enqueue<K: Keeper>(
     at: u64,
 ) -> Result<Said, AllocError>
     requires { IsInput input.now }
-    ensures acts { IfOk result (λ said. Enqueues input.now priority at (place_of queue.old None) said (place_of queue.new None)) }
+    ensures acts { IfOk result (λ said. Enqueues input.now priority at (scene_of queue.old None) said (scene_of queue.new None)) }
     ensures faults { IfOk result (λ said. RoseBy (faults_in said) (K.faults queue.old.keeper) (K.faults queue.new.keeper)) }
 {
     match queue.enqueue(input.copy()?, priority, at) {
@@ -58,7 +57,7 @@ fn is_failed<K: Keeper>(queue: &QueueState<HogCourse, K>, job: u32) -> bool
 
 /// Sweeps the job that is stale first.
 fn sweep<K: Keeper>(queue: &mut QueueState<HogCourse, K>, now: u64) -> Result<Said, AllocError>
-    ensures acts { IfOk result (λ said. Sweeps now (place_of queue.old None) said (place_of queue.new None)) }
+    ensures acts { IfOk result (λ said. Sweeps now (scene_of queue.old None) said (scene_of queue.new None)) }
     ensures faults { IfOk result (λ said. RoseBy (faults_in said) (K.faults queue.old.keeper) (K.faults queue.new.keeper)) }
 {
     match queue.sweep_one(now) {
@@ -82,7 +81,7 @@ fn take<K: Keeper>(
     on: QueueName,
     now: u64,
 ) -> Result<Said, AllocError>
-    ensures acts { IfOk result (λ said. Takes on now (place_of queue.old hand.old) said (place_of queue.new hand.new)) }
+    ensures acts { IfOk result (λ said. Takes on now (scene_of queue.old hand.old) said (scene_of queue.new hand.new)) }
     ensures faults { IfOk result (λ said. RoseBy (faults_in said) (K.faults queue.old.keeper) (K.faults queue.new.keeper)) }
 {
     if hand.is_some() {
@@ -118,7 +117,7 @@ fn beat<K: Keeper>(
     hand: &mut Option<Held>,
     now: u64,
 ) -> Result<Said, AllocError>
-    ensures acts { IfOk result (λ said. Beats now (place_of queue.old hand.old) said (place_of queue.new hand.new)) }
+    ensures acts { IfOk result (λ said. Beats now (scene_of queue.old hand.old) said (scene_of queue.new hand.new)) }
     ensures faults { IfOk result (λ said. RoseBy (faults_in said) (K.faults queue.old.keeper) (K.faults queue.new.keeper)) }
 {
     let Some(held) = hand else {
@@ -139,7 +138,7 @@ fn back<K: Keeper>(
     hand: &mut Option<Held>,
     at: u64,
 ) -> Result<Said, AllocError>
-    ensures acts { IfOk result (λ said. Backs at (place_of queue.old hand.old) said (place_of queue.new hand.new)) }
+    ensures acts { IfOk result (λ said. Backs at (scene_of queue.old hand.old) said (scene_of queue.new hand.new)) }
     ensures faults { IfOk result (λ said. RoseBy (faults_in said) (K.faults queue.old.keeper) (K.faults queue.new.keeper)) }
 {
     let Some(held) = hand else {
@@ -179,7 +178,7 @@ fn said_of(run: &Advance<HogCourse>) -> Said
 fn work_on(alloc: Global, hand: &mut Option<Held>, slice: u32) -> Result<Said, AllocError>
     requires { 1 ≤ slice }
     ensures { (rows : List Row) (history : List Entry) →
-        IfOk result (λ said. Works slice (place_at rows history hand.old) said (place_at rows history hand.new)) }
+        IfOk result (λ said. Works slice (scene_at rows history hand.old) said (scene_at rows history hand.new)) }
 {
     let Some(held) = hand else {
         return Ok(Said::Idle);
@@ -212,7 +211,7 @@ fn answer_to(lease: &Lease<HogCourse>, reply: &Reply) -> Result<Answered<HogCour
 fn answer(hand: &mut Option<Held>, reply: &Reply) -> Result<Said, AllocError>
     requires { HandIsFree hand.old }
     ensures { (rows : List Row) (history : List Entry) →
-        IfOk result (λ said. Replies reply.now (place_at rows history hand.old) said (place_at rows history hand.new)) }
+        IfOk result (λ said. Replies reply.now (scene_at rows history hand.old) said (scene_at rows history hand.new)) }
 {
     let Some(held) = hand else {
         return Ok(Said::Idle);
@@ -264,7 +263,7 @@ fn flush<K: Keeper>(
     queue: &mut QueueState<HogCourse, K>,
     hand: &mut Option<Held>,
 ) -> Result<Said, AllocError>
-    ensures acts { IfOk result (λ said. Flushes (place_of queue.old hand.old) said (place_of queue.new hand.new)) }
+    ensures acts { IfOk result (λ said. Flushes (scene_of queue.old hand.old) said (scene_of queue.new hand.new)) }
     ensures faults { IfOk result (λ said. RoseBy (faults_in said) (K.faults queue.old.keeper) (K.faults queue.new.keeper)) }
 {
     let Some(held) = hand else {
@@ -291,7 +290,7 @@ fn flush<K: Keeper>(
 /// The worker loses what it holds.
 fn lose(hand: &mut Option<Held>) -> Said
     ensures { (rows : List Row) (history : List Entry) →
-        Loses (place_at rows history hand.old) result (place_at rows history hand.new) }
+        Loses (scene_at rows history hand.old) result (scene_at rows history hand.new) }
 {
     if hand.is_none() {
         return Said::Idle;
@@ -303,7 +302,7 @@ fn lose(hand: &mut Option<Held>) -> Said
 /// The worker acts from now on under another lock.
 fn forge(hand: &mut Option<Held>, lock: LockId) -> Said
     ensures { (rows : List Row) (history : List Entry) →
-        Forges lock (place_at rows history hand.old) result (place_at rows history hand.new) }
+        Forges lock (scene_at rows history hand.old) result (scene_at rows history hand.new) }
 {
     match hand {
         None => Said::Idle,
@@ -341,10 +340,9 @@ fn act_alone<K: Keeper>(
 ) -> Result<Said, AllocError>
     requires fit { IsFit step.now }
     requires alone { worker_of step.now ≡ None }
-    ensures acts { IfOk result (λ said. Moves step.now (place_of queue.old None) said (place_of queue.new None)) }
+    ensures acts { IfOk result (λ said. ActsAt step.now (scene_of queue.old None) said (scene_of queue.new None)) }
     ensures faults { IfOk result (λ said. RoseBy (faults_in said) (K.faults queue.old.keeper) (K.faults queue.new.keeper)) }
 {
-    kept_globals();
     match step {
         Step::Enqueue {
             input,
@@ -366,7 +364,7 @@ fn act_by<K: Keeper>(
     requires fit { IsFit step.now }
     requires by { IsSome (worker_of step.now) }
     requires free { HandIsFree hand.old }
-    ensures acts { IfOk result (λ said. Moves step.now (place_of queue.old hand.old) said (place_of queue.new hand.new)) }
+    ensures acts { IfOk result (λ said. ActsAt step.now (scene_of queue.old hand.old) said (scene_of queue.new hand.new)) }
     ensures faults { IfOk result (λ said. RoseBy (faults_in said) (K.faults queue.old.keeper) (K.faults queue.new.keeper)) }
 {
     match step {

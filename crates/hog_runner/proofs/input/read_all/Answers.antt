@@ -1,6 +1,6 @@
 use Rattle.std.proofs.Common.{◌+◌, ◌-◌, arith, vec_len}
 use Rattle.hog_runner.specs.Commands.{most_bytes}
-use Rattle.hog_runner.proofs.TakesLemmas.{Moves-then, Moves-whole, Moves-ended, Moves-large, TakesAtMost-Moves, TakesAtMost-then}
+use Rattle.hog_runner.proofs.TakesLemmas.{ReadsInto-then, ReadsInto-whole, ReadsInto-ended, ReadsInto-large, TakesAtMost-ReadsInto, TakesAtMost-then}
 use Rattle.hog_runner.proofs.input.read_all.Goals as goal
 
 pub returns-in_err-read_more-clause-bounded : goal.returns-in_err-read_more-clause-bounded
@@ -9,24 +9,24 @@ returns-in_err-read_more-clause-bounded g c =
 
 pub returns-then-branch-eq0-clause-text : goal.returns-then-branch-eq0-clause-text
 returns-then-branch-eq0-clause-text g c =
-    Moves-whole c.loop-source.invariant.0 c.in_ok-read_more.ensures.moves (c.in_ok-read_more.ensures.end c.if-branch-eq0.true)
+    ReadsInto-whole c.loop-source.invariant.0 c.in_ok-read_more.ensures.moves (c.in_ok-read_more.ensures.end c.if-branch-eq0.true)
 
 pub returns-then-branch-eq0-clause-end : goal.returns-then-branch-eq0-clause-end
 returns-then-branch-eq0-clause-end g c =
-    Moves-ended c.loop-source.invariant.0 (c.in_ok-read_more.ensures.end c.if-branch-eq0.true)
+    ReadsInto-ended c.loop-source.invariant.0 (c.in_ok-read_more.ensures.end c.if-branch-eq0.true)
 
 pub returns-then-branch-eq0-clause-bounded : goal.returns-then-branch-eq0-clause-bounded
 returns-then-branch-eq0-clause-bounded g c =
-    TakesAtMost-Moves (most_bytes + 1) (Moves-then c.loop-source.invariant.0 c.in_ok-read_more.ensures.moves) (omega (arith, c.in_ok-read_more.ensures.most, c.read_more.new.text.ok.0))
+    TakesAtMost-ReadsInto (most_bytes + 1) (ReadsInto-then c.loop-source.invariant.0 c.in_ok-read_more.ensures.moves) (omega (arith, c.in_ok-read_more.ensures.most, c.read_more.new.text.ok.0))
 
 pub loop-source-preserved : goal.loop-source-preserved
 loop-source-preserved g c =
-    (Moves-then c.loop-source.invariant.0 c.in_ok-read_more.ensures.moves, c.in_ok-read_more.ensures.most, omega arith, omega arith)
+    (ReadsInto-then c.loop-source.invariant.0 c.in_ok-read_more.ensures.moves, c.in_ok-read_more.ensures.most, omega arith, omega arith)
 
 pub returns-clause-large : goal.returns-clause-large
 returns-clause-large g c same =
-    Moves-large most_bytes c.loop-source.invariant.0 (omega (arith, c.loop-source.text.ok.0))
+    ReadsInto-large most_bytes c.loop-source.invariant.0 (omega (arith, c.loop-source.text.ok.0))
 
 pub returns-clause-bounded : goal.returns-clause-bounded
 returns-clause-bounded g c =
-    TakesAtMost-Moves (most_bytes + 1) c.loop-source.invariant.0 (omega (arith, c.loop-source.text.ok.0))
+    TakesAtMost-ReadsInto (most_bytes + 1) c.loop-source.invariant.0 (omega (arith, c.loop-source.text.ok.0))

@@ -1,10 +1,11 @@
-use Rattle.std.proofs.Common.{[], ◌∷◌, ◌++◌, take, sym, ◌∙◌, subst, arith, length-take}
+use Rattle.std.proofs.Common.{◌≤◌, List, [], ◌∷◌, ◌++◌, length, take, sym, ◌∙◌, subst, arith, length-take}
 use Rattle.std.specs.List.{All, AllZip}
 use Rattle.std.proofs.lemmas.List.Elements.{All-push}
 use Rattle.serde_json.specs.View.{view}
 use Rattle.script_reader.specs.Elements.{views}
-use Rattle.script_reader.specs.Script.{IsStepOf}
+use Rattle.script_reader.specs.Script.{IsStepOf, most_steps}
 use Rattle.script_reader.specs.Steps.{Builds, IsFit}
+use Rattle.script_reader.specs.declared.step.Step.{Step}
 use Rattle.script_reader.proofs.Lists.{views_more, views_at, views_length}
 use Rattle.script_reader.proofs.Places.{zip_push, zip_length, before}
 use Rattle.script_reader.proofs.script.script_of.Goals as goal
@@ -47,7 +48,8 @@ loop-n-preserved c =
     }
 
 pub invariant_of-result : goal.invariant_of-result
-invariant_of-result c = (
-  omega (arith, zip_length (take c.loop-n.n (views c.args.elements.now)) c.loop-n.steps.items c.loop-n.invariant.zipped, length-take c.loop-n.n (views c.args.elements.now), views_length c.args.elements.now, c.requires.few),
-  c.loop-n.invariant.fit,
-)
+invariant_of-result c =
+    subst (λ (steps : List Step). (length steps ≤ most_steps) × All IsFit steps) (sym c.new.ensures) (
+      omega (arith, zip_length (take c.loop-n.n (views c.args.elements.now)) c.loop-n.steps.items c.loop-n.invariant.zipped, length-take c.loop-n.n (views c.args.elements.now), views_length c.args.elements.now, c.requires.few),
+      c.loop-n.invariant.fit,
+    )

@@ -1,8 +1,8 @@
-use Rattle.std.proofs.Common.{◌≡◌, ◌<◌, ◌+◌, List, length, get_or, Some, sym, arith}
+use Rattle.std.proofs.Common.{◌≡◌, Some, sym, arith}
 use Rattle.std.specs.Prelude.{slice_get}
 use Rattle.std.proofs.lemmas.Option.{slice_get_within, get_or_from_slice_get}
 use Rattle.cyclotron_jobs.specs.declared.row.Row.{Row}
-use Rattle.line_writer.proofs.AddedLemmas.{Adds-item, AddsPrefix-item, AddsPrefix-items, AddsPrefix-all}
+use Rattle.line_writer.proofs.AddedLemmas.{AddsBytes-item, AddsPrefix-item, AddsPrefix-items, AddsPrefix-all}
 use Rattle.script_steps.specs.Lines.{row_lines}
 use Rattle.script_steps.proofs.lines.write_rows.Goals as goal
 
@@ -23,7 +23,7 @@ loop-row-preserved g c =
     let within = slice_get_within rows job row there in
     record {
       within = omega (arith, within);
-      added = Adds-item row_lines rows job row within (sym (get_or_from_slice_get rows job row row there)) c.loop-row.invariant.added c.in_ok-write_row.ensures.ok;
+      added = AddsBytes-item row_lines rows job row within (sym (get_or_from_slice_get rows job row row there)) c.loop-row.invariant.added c.in_ok-write_row.ensures.ok;
       count = omega (arith, c.in_ok-write_row.ensures.count, c.loop-row.invariant.count);
     }
 

@@ -1,6 +1,6 @@
 use Rattle.std.proofs.Common.{◌≤◌, ◌-◌, length, take}
 use Rattle.std.specs.Prelude.{flat_map}
-use Rattle.line_writer.specs.Added.{Adds}
+use Rattle.line_writer.specs.Added.{AddsBytes}
 use Rattle.script_steps.specs.Lines.{row_lines}
 use Rattle.script_steps.proofs.lines.write_rows.Given as goal
 
@@ -8,7 +8,7 @@ use Rattle.script_steps.proofs.lines.write_rows.Given as goal
 abbrev pub invariant-loop-row : goal.invariant-loop-row
 invariant-loop-row g l = record {
   within : l.job ≤ length l.queue.rows;
-  added : Adds (g.W.Sink.taken l.fn.sink) (g.W.Sink.taken l.sink) (flat_map row_lines (take l.job l.queue.rows));
+  added : AddsBytes (g.W.Sink.taken l.fn.sink) (g.W.Sink.taken l.sink) (flat_map row_lines (take l.job l.queue.rows));
   count : g.W.Sink.faults l.fn.sink ≤ g.W.Sink.faults l.sink;
 }
 

@@ -1,6 +1,6 @@
 use Rattle.std.proofs.Common.{◌≡◌, ◌≤◌, List, length, take}
 use Rattle.std.specs.Prelude.{sum_by}
-use Rattle.line_writer.specs.Added.{Adds}
+use Rattle.line_writer.specs.Added.{AddsBytes}
 use Rattle.script_steps.specs.Free.{AreFree}
 use Rattle.script_steps.specs.Lines.{step_lines}
 use Rattle.script_steps.specs.Play.{PlaysOn, RoseBy, faults_in, stage_of}
@@ -14,7 +14,7 @@ invariant-loop-step g l =
     (saids : List Said)
     × PlaysOn (take l.step-index l.step-items) empty_stage saids (stage_of l.queue l.hands.items)
     × RoseBy (sum_by faults_in saids) (g.K.Keeper.faults l.fn.keeper) (g.K.Keeper.faults l.queue.keeper)
-    × Adds (g.W.Sink.taken l.fn.sink) (g.W.Sink.taken l.sink) (step_lines (take l.step-index l.step-items) saids)
+    × AddsBytes (g.W.Sink.taken l.fn.sink) (g.W.Sink.taken l.sink) (step_lines (take l.step-index l.step-items) saids)
     × (g.W.Sink.faults l.fn.sink ≤ g.W.Sink.faults l.sink)
     × (length l.hands.items ≡ 16)
     × AreFree (stage_of l.queue l.hands.items)

@@ -5,5 +5,4 @@ use Rattle.script_steps.proofs.steps.act_alone.Goals as goal
 pub enqueue-requires : goal.enqueue-requires
 enqueue-requires g c =
     let fit : IsFit (Enqueue c.in-Enqueue.input c.in-Enqueue.priority c.in-Enqueue.at) = rw c.in-Enqueue.is at c.requires.fit in
-    let kept = fit.ranges.0 in
-    record { code = fit.builds.0; source = fit.builds.1; globals = c.kept_globals.ensures.kept kept.members c.in-Enqueue.input.globals kept.reads kept.short }
+    record { code = fit.builds.0; source = fit.builds.1; globals = fit.ranges.0 }

@@ -1,6 +1,5 @@
 use Rattle.std.proofs.Common.{◌≡◌, Some, None, Option, sym, ap, ◌∙◌}
 use Rattle.hog_outside.specs.Faults.{Rose}
-use Rattle.script_steps.specs.declared.said.Held.{Held}
 use Rattle.script_steps.specs.declared.said.Product.{Product}
 use Rattle.script_steps.specs.Play.{HoldsProduct, ProductBegan}
 use Rattle.script_steps.proofs.PlayLemmas.{appends_of, refused_of, rose_refused}

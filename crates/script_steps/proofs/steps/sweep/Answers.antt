@@ -1,4 +1,4 @@
-use Rattle.std.proofs.Common.{◌≡◌, ◌≢◌, true, false, sym, ◌∙◌}
+use Rattle.std.proofs.Common.{◌≡◌, true, false, sym, ◌∙◌}
 use Rattle.cyclotron_jobs.specs.declared.row.Row.{Row}
 use Rattle.cyclotron_jobs.specs.declared.row.JobState.TheVariants.{Failed}
 use Rattle.script_steps.proofs.PlayLemmas.{swept_of, swept_open}

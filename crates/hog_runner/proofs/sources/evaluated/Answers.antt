@@ -3,7 +3,7 @@ use Rattle.std.specs.Prelude.{codes}
 use Rattle.std.specs.Fmt.{digits}
 use Rattle.serde_json.proofs.OnLiterals.{serde_json_on_literals}
 use Rattle.hogvm.specs.Calls.{is_globals}
-use Rattle.hog_runner.proofs.top.evaluated.Goals as goal
+use Rattle.hog_runner.proofs.sources.evaluated.Goals as goal
 
 right : is_globals (codes "{}") ≡ true
 unfolding digits serde_json_on_literals
