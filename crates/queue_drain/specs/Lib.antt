@@ -1,0 +1,4 @@
+pub mod Work
+pub mod Stops
+pub mod Drained
+pub mod Steps
