@@ -1,0 +1,3 @@
+mod ReplyLemmas
+mod RowLemmas
+mod WaitLemmas
