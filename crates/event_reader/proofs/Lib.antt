@@ -1,0 +1,11 @@
+pub mod Left
+pub mod Made
+pub mod Rows
+pub mod Stopped
+pub mod One
+pub mod Gathers
+pub mod Globals
+pub mod Sums
+pub mod Refusals
+pub mod FirstStops
+pub mod Answered

@@ -1,0 +1,4 @@
+pub mod Stops
+pub mod Meetings
+pub mod Plans
+pub mod Gathering
