@@ -1,0 +1,4 @@
+mod Planned
+mod Short
+mod NoRefusal
+mod Batches

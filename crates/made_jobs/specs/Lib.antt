@@ -1,0 +1,4 @@
+pub mod Made
+pub mod Stops
+pub mod Jobs
+pub mod Laws
