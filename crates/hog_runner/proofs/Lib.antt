@@ -1,3 +1,4 @@
 pub mod TakesLemmas
 pub mod ServesLemmas
+pub mod WordLemmas
 pub mod TopLemmas

@@ -34,6 +34,12 @@ puts_so output' part' f p (NoMemory five (inr added)) = NoMemory five (inr (adde
 
 module _ {S W : Type 0} {left : S → Option (List ℕ)} {reads : S → ℕ} {taken : W → Option (List ℕ)} {writes : W → ℕ}
     {refuses output part : List ℕ → List ℕ → Type 0} {source after : S} {sink new : W} {status : ℕ} where
+  -- what comes where the keeper didn't fail
+  pub served : (status ≡ 6) ⊎ AtStatus left reads taken writes refuses output part source after sink new status → (status ≡ 6 → ⊥)
+      → AtStatus left reads taken writes refuses output part source after sink new status
+  served (inl six) not_six = absurd (not_six six)
+  served (inr at) not_six = at
+
   -- which statuses there are
   pub at_all : AtStatus left reads taken writes refuses output part source after sink new status → (status ≤ 5) × (status ≡ 2 → ⊥)
   at_all (Taken (Whole s added)) = (omega (arith, s), λ t. omega (arith, s, t))

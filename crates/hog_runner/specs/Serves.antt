@@ -1,14 +1,18 @@
 -- What a command does with a source and a sink, by the status that it answers. Of a source `left` are the bytes that it has left,
 -- where it tells them, and of a sink `taken` are those that it took; `reads` and `writes` are their counts of faults.
 use Rattle.std.specs.Prelude.{◌≡◌, ◌⊎◌, ℕ, ◌+◌, ◌≤◌, List, [], Option, Some}
+use Rattle.std.specs.List.{AllZip}
 use Rattle.std.specs.Option.{ForSome}
 use Rattle.hog_outside.specs.Faults.{Rose}
 use Rattle.cyclotron_jobs.specs.declared.entry.Entry.{Entry}
+use Rattle.cyclotron_jobs.specs.declared.input.JobInput.{JobInput}
 use Rattle.cyclotron_jobs.specs.declared.row.Row.{Row}
-use Rattle.line_writer.specs.Added.{AddsSome, AddsSomePrefix, AddsUnless}
+use Rattle.line_writer.specs.Added.{AddsBytes, AddsSome, AddsSomePrefix, AddsUnless}
+use Rattle.made_jobs.specs.Made.{Makes, IsCompletedOf}
+use Rattle.made_jobs.specs.declared.making.MadeCounts.{MadeCounts}
 use Rattle.script_reader.specs.declared.step.Step.{Step}
 use Rattle.script_steps.specs.Plays.{Plays}
-use Rattle.hog_runner.specs.Commands.{ScriptOf, most_bytes}
+use Rattle.hog_runner.specs.Commands.{ScriptOf, make_line, most_bytes}
 use Rattle.hog_runner.specs.Takes.{TakesAtMost}
 use Rattle.hog_runner.specs.Writes.{refusal}
 
@@ -56,3 +60,12 @@ pub record ClosesQueue (left taken after : Option (List ℕ)) (faults last : ℕ
   pub steps : List Step
   pub script : ForSome left (λ text. ScriptOf text steps)
   pub written : AddsSome taken after (Plays faults last steps rows history)
+
+-- The queue of a made plan was closed: its jobs have the inputs of the plan in order and are all completed, and the line of their
+-- counts was written.
+pub record ClosesMade (n : ℕ) (taken after : Option (List ℕ)) (rows : List Row) : Type 0 where
+  pub inputs : List JobInput
+  pub counts : MadeCounts
+  pub makes : Makes n inputs counts
+  pub completed : AllZip IsCompletedOf inputs rows
+  pub written : AddsBytes taken after (make_line n counts)

@@ -6,7 +6,8 @@ use cyclotron_core::QueueState;
 use hog_jobs::HogCourse;
 use job_keeper::Keeper;
 
-/// What the program answers: its status, and the queue on which it played, where it is done with a script.
+/// What the program answers: its status, and the queue that it worked on, where it is done with a script or a made plan, or where
+/// the keeper failed.
 #[derive(Drop)]
 pub struct Answer<K: Keeper> {
     pub status: u8,

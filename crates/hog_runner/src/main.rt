@@ -1,13 +1,14 @@
 //! The program `hog_runner`: reads standard input, and writes to standard output what its words ask for.
-//! Stands on hog_outside, line_writer, hog_program, hog_printer, hog_compiler, bytecode_json, script_steps and those below.
+//! Stands on hog_outside, line_writer, hog_program, hog_printer, hog_compiler, bytecode_json, script_steps, made_jobs and those below.
 //! The contract is that of `top_still`: when each status comes, and what is read and written at it, for every list of
-//! words, every input, and every fault of the source, the sink and the keeper; and what the queue of a script keeps.
+//! words, every input, and every fault of the source, the sink and the keeper; and what the queue of a script or of a made plan keeps.
 //! specs/Writes.antt and Commands.antt say what the program answers for its words and its input.
 #![tactic(auto)]
 
 pub mod answer;
 pub mod causes;
 pub mod input;
+mod plans;
 pub mod program;
 mod refusals;
 mod replays;

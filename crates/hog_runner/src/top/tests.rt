@@ -4,6 +4,7 @@ use hog_value::items::Numbers;
 use job_keeper::{MemKeeper, NoKeeper};
 use std::test::Fail;
 
+mod plans;
 mod plays;
 
 fn given(alloc: Global, words: &[&str]) -> Result<Vec<HogText>, Fail> {
@@ -359,10 +360,17 @@ fn programs(rt: HostRuntime) -> Result<(), Fail> {
 
 #[test]
 fn words_and_bytes(rt: HostRuntime) -> Result<(), Fail> {
-    let rows: [(&[&str], &[u8], u8, &str); 5] = [
+    let rows: [(&[&str], &[u8], u8, &str); 12] = [
         (&[], b"return 1;", 2, "refused: words\n"),
         (&["eval", "x"], b"return 1;", 2, "refused: words\n"),
         (&["Eval"], b"return 1;", 2, "refused: words\n"),
+        (&["make"], b"", 2, "refused: words\n"),
+        (&["make", ""], b"", 2, "refused: words\n"),
+        (&["make", "x"], b"", 2, "refused: words\n"),
+        (&["make", "+1"], b"", 2, "refused: words\n"),
+        (&["make", "00001"], b"", 2, "refused: words\n"),
+        (&["make", "3001"], b"", 2, "refused: words\n"),
+        (&["make", "1", "2"], b"", 2, "refused: words\n"),
         (&["eval"], b"\xff", 1, "refused: not utf8 at 0\n"),
         (&["fmt"], b"'\xc3\xa9\xc3", 1, "refused: not utf8 at 3\n"),
     ];
