@@ -1,0 +1,11 @@
+pub mod Pass
+pub mod Places
+pub mod Stacks
+pub mod Heaps
+pub mod Steady
+pub mod Landing
+pub mod Moves
+pub mod Turns
+pub mod Steps
+pub mod Firsts
+pub mod Top
